@@ -1,0 +1,7 @@
+pub mod Answers
+pub mod Bits
+pub mod Loads
+pub mod Tests
+pub mod Totals
+pub mod Presence
+pub mod Exchange
