@@ -10,7 +10,7 @@ use crate::line::Line;
 use loads::Load;
 
 // The claim of the line at a place, counted from 0: first the book's equations, then the added lines.
-fn claim_at(book: &[Equation], added: &[Line], place: usize) -> Option<Equation>
+pub fn claim_at(book: &[Equation], added: &[Line], place: usize) -> Option<Equation>
     ensures { λ r. ⌜ r ≡ nth (claims (now (book .entry)) (now (added .entry))) place ⌝ }
 {
     if place < book.len() {

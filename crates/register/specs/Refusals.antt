@@ -1,0 +1,28 @@
+-- What is told of a refusal.
+use Prim.Native.Nat.{ℕ}
+use Rattle.std.specs.declared.option.Option.the-variants.{None}
+use Rattle.worksheet.specs.declared.fault.ReplayFault.{ReplayFault}
+use Rattle.worksheet.specs.declared.fault.SwapFault.{SwapFault}
+use Rattle.worksheet.specs.declared.fault.SwapFault.the-variants.{NoLine, Lacks, Overflow}
+use Rattle.register.specs.declared.refusal.Part.{Part}
+use Rattle.register.specs.declared.refusal.Part.the-variants as part
+use Rattle.register.specs.declared.refusal.Told.{Told}
+use Rattle.register.specs.declared.refusal.Refusal.{Refusal}
+use Rattle.register.specs.declared.refusal.Refusal.the-variants as refusal
+
+-- a number, a part and a place
+abbrev pub plain : ℕ → Part → ℕ → Told
+plain n p k = record { number = n; part = p; place = k; step = None }
+
+-- a swap of a replayed chain that is not made, at its step
+abbrev pub told-swap : SwapFault → ℕ → Told
+told-swap NoLine n = plain 11 part.Replay n
+told-swap Lacks n = plain 12 part.Replay n
+told-swap Overflow n = plain 7 part.Step n
+
+-- the number, the part and the place of each refusal
+abbrev pub told : Refusal → Told
+told refusal.NotOpen = plain 1 part.Register 0
+told refusal.EmptySide = plain 3 part.Enter 0
+told refusal.BookFull = plain 4 part.Enter 0
+told (refusal.Replay f) = told-swap (f .fault) (f .step)

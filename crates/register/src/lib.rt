@@ -1,0 +1,7 @@
+// The register: a book of equations, a table of rules and a worksheet, in memory that is reserved when it is made.
+pub mod enter;
+pub mod making;
+pub mod reading;
+pub mod refusal;
+pub mod register;
+pub mod replay;
