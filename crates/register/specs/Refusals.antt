@@ -1,6 +1,10 @@
 -- What is told of a refusal.
+use mathlib.Core.List.{List, _++_}
 use Prim.Native.Nat.{ℕ}
-use Rattle.std.specs.declared.option.Option.the-variants.{None}
+use Rattle.std.specs.declared.option.Option.{Option}
+use Rattle.std.specs.declared.option.Option.the-variants.{Some, None}
+use lib.Chars.{codes}
+use Rattle.std.specs.Written.{decimal}
 use Rattle.worksheet.specs.declared.fault.ReplayFault.{ReplayFault}
 use Rattle.worksheet.specs.declared.fault.SwapFault.{SwapFault}
 use Rattle.worksheet.specs.declared.fault.SwapFault.the-variants.{NoLine, Lacks, Overflow}
@@ -26,3 +30,19 @@ told refusal.NotOpen = plain 1 part.Register 0
 told refusal.EmptySide = plain 3 part.Enter 0
 told refusal.BookFull = plain 4 part.Enter 0
 told (refusal.Replay f) = told-swap (f .fault) (f .step)
+
+-- the word for a part
+abbrev pub word : Part → List ℕ
+word part.Register = codes "register"
+word part.Enter = codes "enter"
+word part.Step = codes "step"
+word part.Replay = codes "replay"
+
+-- the place, and the step where a replay keeps one
+abbrev pub place-words : ℕ → Option ℕ → List ℕ
+place-words k None = decimal k
+place-words k (Some n) = decimal k ++ (codes ", step " ++ decimal n)
+
+-- a refusal in words, as it is printed
+abbrev pub sentence : Told → List ℕ
+sentence t = codes "refused " ++ (decimal (t .number) ++ (codes ": " ++ (word (t .part) ++ (codes ", place " ++ place-words (t .place) (t .step)))))

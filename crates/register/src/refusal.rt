@@ -1,7 +1,7 @@
 // Why a call is refused.
 ghost use mathlib.Core.Path.{_≡_};
 ghost use Rattle.std.specs.declared.option.Option.the-variants.{Some};
-ghost use Rattle.register.specs.Refusals.{plain, told};
+ghost use Rattle.register.specs.Refusals.{plain, told, word, sentence};
 ghost use Rattle.register.specs.declared.refusal.Refusal.the-variants.{Replay};
 use std::fmt;
 use worksheet::fault::ReplayFault;
@@ -88,6 +88,33 @@ impl Refusal {
                     fault: SwapFault::Overflow,
                 },
             ) => plain(7, Part::Step, step),
+        }
+    }
+}
+
+pub impl fmt::Display for Part as PartDisplay {
+    ghost shown = { λ p. Some (word p) };
+
+    fn fmt<W: fmt::Write>(&self, f: &mut fmt::Formatter<W>) -> fmt::Result {
+        match self {
+            Part::Register => write!(f, "register"),
+            Part::Enter => write!(f, "enter"),
+            Part::Step => write!(f, "step"),
+            Part::Replay => write!(f, "replay"),
+        }
+    }
+}
+
+pub impl fmt::Display for Told as ToldDisplay {
+    ghost shown = { λ t. Some (sentence t) };
+
+    fn fmt<W: fmt::Write>(&self, f: &mut fmt::Formatter<W>) -> fmt::Result {
+        let number = self.number;
+        let part = self.part;
+        let place = self.place;
+        match self.step {
+            None => write!(f, "refused {number}: {part}, place {place}"),
+            Some(step) => write!(f, "refused {number}: {part}, place {place}, step {step}"),
         }
     }
 }
