@@ -15,5 +15,6 @@ starts-none : (above : Relation) {x : Load} → Acc (λ y z. above z y ≡ true)
     → ¬ ((n : ℕ) → above (row n) (row (suc n)) ≡ true)
 starts-none above (Acc·intro x h) row e falls = starts-none above (h (row 1) (rw e at (falls 0))) (λ n. row (suc n)) refl (λ n. falls (suc n))
 
+-- so no row of loads falls for ever
 pub no-endless-row : {above : Relation} → Admissible above → No-endless-row above
 no-endless-row {above} laws row = starts-none above (all-end laws (row 0)) row refl

@@ -17,6 +17,7 @@ module _
     {K L : Type 0} {none₁ : K} {none₂ : L} {sum₁ : K → K → K} {sum₂ : L → L → L} {upper : K → K → Bool} {lower : L → L → Bool}
     (same : K → K → Bool) (decides : (x y : K) → Decides (same x y) (x ≡ y)) (r₁ : Ranking none₁ sum₁ upper) (r₂ : Ranking none₂ sum₂ lower)
   where
+    -- the relation of the pairs
     abbrev over : K × L → K × L → Bool
     over = paired same upper lower
 
@@ -24,15 +25,18 @@ module _
     abbrev Over : K × L → K × L → Type 0
     Over p q = (upper (p .0) (q .0) ≡ true) ⊎ ((p .0 ≡ q .0) × (lower (p .1) (q .1) ≡ true))
 
+    -- what the relation tells
     tells : (p q : K × L) → over p q ≡ true → Over p q
     tells p q h = elim (cases-bool (same (p .0) (q .0))) [
       | inl e ↦ inr (decides (p .0) (q .0) .0 e, sym (cond-true (same (p .0) (q .0)) _ _ e) ∙ h)
       | inr e ↦ inl (sym (cond-false (same (p .0) (q .0)) _ _ e) ∙ h)
     ]
 
+    -- nothing is above itself
     never : (x : K) → upper x x ≡ true → ⊥
     never x h = elim (r₁ .one x x) [ is-first _ nb _ ↦ nb h | is-second na _ _ ↦ na h | is-third na _ _ ↦ na h ]
 
+    -- where the relation holds
     holds : (p q : K × L) → Over p q → over p q ≡ true
     holds p q (inl u) = elim (cases-bool (same (p .0) (q .0))) [
       | inl e ↦ absurd (never (q .0) (rw (decides (p .0) (q .0) .0 e) at u))
@@ -40,6 +44,7 @@ module _
     ]
     holds p q (inr l) = cond-true (same (p .0) (q .0)) _ _ (decides (p .0) (q .0) .1 (l .0)) ∙ l .1
 
+    -- where it does not
     fails : (p q : K × L) → ¬ (upper (p .0) (q .0) ≡ true) → ¬ ((p .0 ≡ q .0) × (lower (p .1) (q .1) ≡ true)) → ¬ (over p q ≡ true)
     fails p q nu nl h = ⊎-elim nu nl (tells p q h)
 
@@ -62,6 +67,7 @@ module _
     chained p q r (inr l) (inl v) = inl (rw (l .0) v)
     chained p q r (inr l) (inr m) = inr (l .0 ∙ m .0, r₂ .trans (p .1) (q .1) (r .1) (l .1) (m .1))
 
+    -- the sum of two pairs
     abbrev sum : K × L → K × L → K × L
     sum p q = (sum₁ (p .0) (q .0), sum₂ (p .1) (q .1))
 
@@ -83,6 +89,7 @@ module _
         Subrelation·accessible (λ q r h. Prod·lex-def .1 (⊎-elim Or·inl (λ l. Or·inr (sym (l .0), l .1)) (tells r q h)))
         (Prod·lexAccessible (r₁ .ends (p .0)) (r₂ .ends) (p .1))
 
+    -- pairs keep the laws
     pub pairs : Ranking {K = K × L} (none₁, none₂) sum over
     pairs =
         record {

@@ -12,13 +12,17 @@ use Rattle.loads.proofs.Algebra.{past, at-load-of, same, count, counts}
 use Rattle.orders.specs.Relations.{part}
 use Rattle.orders.proofs.Keys.{Additive}
 
+-- nothing is left of nothing
 either-zero : (b : Bool) (n : ℕ) → n ≡ 0 → cond b n 0 ≡ 0
 either-zero true n e = e
 either-zero false n e = refl
 
+-- the counts of a part
 pub at-part : (ms : List Bool) (side : Bool) (x : Load) (k : ℕ) → at (part ms side x) k ≡ cond (Bool·beq (getD ms k false) side) (at x k) 0
 unfolding part
-at-part ms side x = at-load-of (λ k. cond (Bool·beq (getD ms k false) side) (at x k) 0) (λ k h. either-zero (Bool·beq (getD ms k false) side) (at x k) (past x k h))
+at-part ms side x =
+    at-load-of (λ k. cond (Bool·beq (getD ms k false) side) (at x k) 0)
+    (λ k h. either-zero (Bool·beq (getD ms k false) side) (at x k) (past x k h))
 
 module _ (ms : List Bool) (side : Bool) where
   -- the test at place k, and what it makes of every load
@@ -28,6 +32,7 @@ module _ (ms : List Bool) (side : Bool) where
   out-of-part : (k : ℕ) → Bool·beq (getD ms k false) side ≡ false → (x : Load) → at (part ms side x) k ≡ 0
   out-of-part k e x = at-part ms side x k ∙ ap (λ b. cond b (at x k) 0) e
 
+  -- a part adds up
   pub part-adds : Additive empty plus (part ms side)
   part-adds =
       record {

@@ -10,6 +10,7 @@ use Rattle.orders.proofs.Rankings.{loads}
 use Rattle.orders.proofs.Keys.{both, by-key}
 use Rattle.orders.proofs.Parts.{part-adds, part-both}
 
+-- two orders, split by marks, keep the five laws
 pub split-laws : (ms : List Bool) {first second : Relation} → Admissible first → Admissible second → Admissible (split ms first second)
 split-laws ms laws₁ laws₂ =
     by-key (λ x. (part ms true x, part ms false x)) (pairs alike alike-decides (loads laws₁) (loads laws₂)) (both (part-adds ms true) (part-adds ms false))

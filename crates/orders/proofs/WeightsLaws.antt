@@ -26,5 +26,6 @@ weighed-adds ws =
           ∙ sum-plus 8 (λ k. getD ws k 0 * at x k) (λ k. getD ws k 0 * at y k);
     }
 
+-- weights over an order keep the five laws
 pub weighted-laws : (ws : List ℕ) {below : Relation} → Admissible below → Admissible (weighted ws below)
 weighted-laws ws laws = by-key (λ x. (weighed ws x, x)) (pairs eqb decides-eqb numbers (loads laws)) (both (weighed-adds ws) itself) (λ x y e i. e i .1)
