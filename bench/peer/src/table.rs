@@ -1,0 +1,99 @@
+//! Rules and reducing. Nothing here knows of registers or worksheets.
+
+use crate::load::Load;
+
+/// A one-way swap, and the number of the line that claims it.
+#[derive(Clone, Copy, Debug, PartialEq, Eq)]
+pub struct Rule {
+    pub left: Load,
+    pub right: Load,
+    pub line: u16,
+}
+
+/// Why a step is not made.
+#[derive(Clone, Copy, Debug, PartialEq, Eq)]
+pub enum StepFault {
+    Budget,
+    Overflow,
+}
+
+impl StepFault {
+    pub fn number(self) -> u8 {
+        match self {
+            StepFault::Budget => 6,
+            StepFault::Overflow => 7,
+        }
+    }
+}
+
+/// The first rule that fits a load.
+#[inline]
+pub fn search<'t>(rules: &'t [Rule], load: &Load) -> Option<&'t Rule> {
+    rules.iter().find(|rule| load.contains(&rule.left))
+}
+
+/// Steps until no rule fits. Each takes one from the budget and tells its line to `each`.
+#[inline]
+pub fn reduce(
+    rules: &[Rule],
+    mut load: Load,
+    budget: &mut u32,
+    mut each: impl FnMut(u16),
+) -> Result<Load, StepFault> {
+    while let Some(rule) = search(rules, &load) {
+        if *budget == 0 {
+            return Err(StepFault::Budget);
+        }
+        load = load.exchange(&rule.left, &rule.right).ok_or(StepFault::Overflow)?;
+        *budget -= 1;
+        each(rule.line);
+    }
+    Ok(load)
+}
+
+/// Two loads and what they are reduced to, with the steps of each.
+pub struct Ends {
+    pub loads: [Load; 2],
+    pub steps: [u32; 2],
+}
+
+impl Ends {
+    pub fn meet(&self) -> bool {
+        self.loads[0] == self.loads[1]
+    }
+}
+
+/// Reduces two loads in turn within one budget.
+#[inline]
+pub fn reduce_both(rules: &[Rule], loads: [Load; 2], budget: &mut u32) -> Result<Ends, StepFault> {
+    let full = *budget;
+    let first = reduce(rules, loads[0], budget, |_| ())?;
+    let between = *budget;
+    let second = reduce(rules, loads[1], budget, |_| ())?;
+    Ok(Ends {
+        loads: [first, second],
+        steps: [full - between, between - *budget],
+    })
+}
+
+/// Writes the lines of a reduction that is known to end after so many steps as the chain has places.
+pub fn trail_forward(rules: &[Rule], load: Load, chain: &mut [i16]) {
+    let mut steps = chain.len() as u32;
+    let mut places = chain.iter_mut();
+    let _ = reduce(rules, load, &mut steps, |line| {
+        if let Some(place) = places.next() {
+            *place = line as i16;
+        }
+    });
+}
+
+/// Writes the chain that undoes such a reduction.
+pub fn trail_backward(rules: &[Rule], load: Load, chain: &mut [i16]) {
+    let mut steps = chain.len() as u32;
+    let mut places = chain.iter_mut().rev();
+    let _ = reduce(rules, load, &mut steps, |line| {
+        if let Some(place) = places.next() {
+            *place = -(line as i16);
+        }
+    });
+}
