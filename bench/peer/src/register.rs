@@ -168,7 +168,7 @@ impl Register {
     pub fn standard(&self, load: &mut Load, budget: u32) -> Result<u32, Refusal> {
         self.check_settled()?;
         let mut left = budget;
-        *load = table::reduce(&self.rules, *load, &mut left, |_| ())
+        *load = table::reduce(&self.rules, load, &mut left, |_| ())
             .map_err(|fault| Refusal::new(fault.number(), "step", 1))?;
         Ok(budget - left)
     }
@@ -184,7 +184,7 @@ impl Register {
         self.check_settled()?;
         let mut left = budget;
         let mut standard = |load: &Load, place| {
-            table::reduce(&self.rules, *load, &mut left, |_| ())
+            table::reduce(&self.rules, load, &mut left, |_| ())
                 .map(|end| (end, left))
                 .map_err(|fault| Refusal::new(fault.number(), "step", place))
         };
@@ -198,8 +198,8 @@ impl Register {
             return Err(Refusal::new(10, "match", 0));
         }
         let (there, back) = chain[..steps as usize].split_at_mut((budget - between) as usize);
-        table::trail_forward(&self.rules, *first, there);
-        table::trail_backward(&self.rules, *second, back);
+        table::trail_forward(&self.rules, first, there);
+        table::trail_backward(&self.rules, second, back);
         Ok(Matched::Equal(steps))
     }
 

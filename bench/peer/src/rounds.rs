@@ -19,6 +19,11 @@ impl Topic {
             Topic::Pair(i, j) => 256 * i + j,
         }
     }
+
+    fn stuck(self, fault: StepFault) -> Stuck {
+        let place = self.place();
+        Stuck { fault, place }
+    }
 }
 
 /// A topic whose two loads end in different standard loads.
@@ -40,19 +45,23 @@ pub fn first_apart(
     rules: &[Rule],
     budget: &mut u32,
 ) -> Result<Option<Apart>, Stuck> {
-    for (place, equation) in book.iter().enumerate() {
-        let topic = Topic::Equation(place + 1);
+    for (k, equation) in book.iter().enumerate() {
+        let topic = Topic::Equation(k + 1);
         let loads = [equation.left, equation.right];
-        if let Some(apart) = ask(topic, Some(loads), rules, budget)? {
-            return Ok(Some(apart));
+        let ends = table::reduce_both(rules, &loads, budget).map_err(|fault| topic.stuck(fault))?;
+        if !ends.meet() {
+            return Ok(Some(Apart { topic, loads, ends }));
         }
     }
     for (i, first) in rules.iter().enumerate() {
         for (j, second) in rules.iter().enumerate().skip(i + 1) {
             if first.left.shares(&second.left) {
                 let topic = Topic::Pair(i + 1, j + 1);
-                if let Some(apart) = ask(topic, from_peak(first, second), rules, budget)? {
-                    return Ok(Some(apart));
+                let loads = from_peak(first, second).ok_or(topic.stuck(StepFault::Overflow))?;
+                let ends =
+                    table::reduce_both(rules, &loads, budget).map_err(|fault| topic.stuck(fault))?;
+                if !ends.meet() {
+                    return Ok(Some(Apart { topic, loads, ends }));
                 }
             }
         }
@@ -66,26 +75,6 @@ fn from_peak(first: &Rule, second: &Rule) -> Option<[Load; 2]> {
     let by_first = first.right.plus_beyond(&second.left, &first.left)?;
     let by_second = second.right.plus_beyond(&first.left, &second.left)?;
     Some([by_first, by_second])
-}
-
-/// Reduces the two loads of a topic. No loads are given where a count of them passes 65,535.
-#[inline]
-fn ask(
-    topic: Topic,
-    loads: Option<[Load; 2]>,
-    rules: &[Rule],
-    budget: &mut u32,
-) -> Result<Option<Apart>, Stuck> {
-    let stuck = |fault| Stuck {
-        fault,
-        place: topic.place(),
-    };
-    let loads = loads.ok_or(StepFault::Overflow).map_err(stuck)?;
-    let ends = table::reduce_both(rules, loads, budget).map_err(stuck)?;
-    if ends.meet() {
-        return Ok(None);
-    }
-    Ok(Some(Apart { topic, loads, ends }))
 }
 
 /// Why the rounds stop before the book is settled.
@@ -164,7 +153,7 @@ impl<O: Order> Rounds<'_, O> {
         let chain = &mut self.sheet.chain;
         let start = chain.len();
         chain.resize(start + up, 0);
-        table::trail_backward(self.rules, apart.loads[l], &mut chain[start..]);
+        table::trail_backward(self.rules, &apart.loads[l], &mut chain[start..]);
         if l == 0 {
             chain.extend(middle.into_iter().flatten());
         } else {
@@ -172,7 +161,7 @@ impl<O: Order> Rounds<'_, O> {
         }
         let across = chain.len();
         chain.resize(across + down, 0);
-        table::trail_forward(self.rules, apart.loads[r], &mut chain[across..]);
+        table::trail_forward(self.rules, &apart.loads[r], &mut chain[across..]);
         let line = self.sheet.push(Equation { left, right }, start);
 
         self.rules.retain(|rule| !rule.left.contains(&left));
@@ -197,7 +186,7 @@ impl<O: Order> Rounds<'_, O> {
         let code = 32768 + place + 1;
         let Rule { left, right, line } = self.rules[place];
         let before = self.budget;
-        let standard = table::reduce(self.rules, right, &mut self.budget, |_| ())
+        let standard = table::reduce(self.rules, &right, &mut self.budget, |_| ())
             .map_err(|fault| Stuck { fault, place: code })?;
         let steps = (before - self.budget) as usize;
         if !self.sheet.has_room(steps.saturating_add(1)) {
@@ -207,7 +196,7 @@ impl<O: Order> Rounds<'_, O> {
         let start = chain.len();
         chain.push(line as i16);
         chain.resize(start + 1 + steps, 0);
-        table::trail_forward(self.rules, right, &mut chain[start + 1..]);
+        table::trail_forward(self.rules, &right, &mut chain[start + 1..]);
         let claim = Equation {
             left,
             right: standard,

@@ -138,7 +138,8 @@ fn read_hex(text: &[u8], bytes: &mut Vec<u8>) -> Option<()> {
     if text == b"-" {
         return Some(());
     }
-    let (pairs, rest) = text.as_chunks::<2>();
+    let pairs = text.chunks_exact(2);
+    let rest = pairs.remainder();
     for pair in pairs {
         let high = char::from(pair[0]).to_digit(16)?;
         let low = char::from(pair[1]).to_digit(16)?;

@@ -36,10 +36,11 @@ pub fn search<'t>(rules: &'t [Rule], load: &Load) -> Option<&'t Rule> {
 #[inline]
 pub fn reduce(
     rules: &[Rule],
-    mut load: Load,
+    load: &Load,
     budget: &mut u32,
     mut each: impl FnMut(u16),
 ) -> Result<Load, StepFault> {
+    let mut load = *load;
     while let Some(rule) = search(rules, &load) {
         if *budget == 0 {
             return Err(StepFault::Budget);
@@ -65,11 +66,11 @@ impl Ends {
 
 /// Reduces two loads in turn within one budget.
 #[inline]
-pub fn reduce_both(rules: &[Rule], loads: [Load; 2], budget: &mut u32) -> Result<Ends, StepFault> {
+pub fn reduce_both(rules: &[Rule], loads: &[Load; 2], budget: &mut u32) -> Result<Ends, StepFault> {
     let full = *budget;
-    let first = reduce(rules, loads[0], budget, |_| ())?;
+    let first = reduce(rules, &loads[0], budget, |_| ())?;
     let between = *budget;
-    let second = reduce(rules, loads[1], budget, |_| ())?;
+    let second = reduce(rules, &loads[1], budget, |_| ())?;
     Ok(Ends {
         loads: [first, second],
         steps: [full - between, between - *budget],
@@ -77,7 +78,7 @@ pub fn reduce_both(rules: &[Rule], loads: [Load; 2], budget: &mut u32) -> Result
 }
 
 /// Writes the lines of a reduction that is known to end after so many steps as the chain has places.
-pub fn trail_forward(rules: &[Rule], load: Load, chain: &mut [i16]) {
+pub fn trail_forward(rules: &[Rule], load: &Load, chain: &mut [i16]) {
     let mut steps = chain.len() as u32;
     let mut places = chain.iter_mut();
     let _ = reduce(rules, load, &mut steps, |line| {
@@ -88,7 +89,7 @@ pub fn trail_forward(rules: &[Rule], load: Load, chain: &mut [i16]) {
 }
 
 /// Writes the chain that undoes such a reduction.
-pub fn trail_backward(rules: &[Rule], load: Load, chain: &mut [i16]) {
+pub fn trail_backward(rules: &[Rule], load: &Load, chain: &mut [i16]) {
     let mut steps = chain.len() as u32;
     let mut places = chain.iter_mut().rev();
     let _ = reduce(rules, load, &mut steps, |line| {
