@@ -43,14 +43,14 @@ pub fn check_lines(sheet: &Sheet) -> Result<(), Refusal> {
         let number = before + place + 1;
         let (chain, tail) = rest.split_at(usize::from(line.length));
         rest = tail;
-        let end = sheet
-            .follow(&line.claim.left, chain, number - 1)
-            .map_err(|ReplayFault { fault, step }| Refusal {
+        let end = sheet.follow(&line.claim.left, chain, number - 1).map_err(
+            |ReplayFault { fault, step }| Refusal {
                 number: fault.number(),
                 part: "worksheet",
                 place: number,
                 step: Some(step),
-            })?;
+            },
+        )?;
         if end != line.claim.right {
             return Err(Refusal::new(20, "worksheet", number));
         }
@@ -68,7 +68,10 @@ pub fn check_rules<O: Order>(order: &O, sheet: &Sheet, rules: &[Rule]) -> Result
     if let Some(place) = rules.iter().position(|rule| !is_claim(rule)) {
         return refused(21, place);
     }
-    if let Some(place) = rules.iter().position(|rule| !order.above(&rule.left, &rule.right)) {
+    if let Some(place) = rules
+        .iter()
+        .position(|rule| !order.above(&rule.left, &rule.right))
+    {
         return refused(22, place);
     }
     match (0..rules.len()).find(|&place| !is_reduced(order, rules, place)) {

@@ -28,10 +28,20 @@ const LIMITS: [usize; 4] = [MOST_EQUATIONS, MOST_RULES, MOST_LINES, MOST_CHAIN];
 impl Parts<'_> {
     /// The byte offset of each section, and of the end.
     fn offsets(&self) -> [usize; 5] {
-        let equations: usize = self.equations.iter().map(|e| pair_size(&e.left, &e.right)).sum();
-        let rules: usize = self.rules.iter().map(|r| pair_size(&r.left, &r.right) + 2).sum();
+        let equations: usize = self
+            .equations
+            .iter()
+            .map(|e| pair_size(&e.left, &e.right))
+            .sum();
+        let rules: usize = self
+            .rules
+            .iter()
+            .map(|r| pair_size(&r.left, &r.right) + 2)
+            .sum();
         let lines = self.lines.iter();
-        let lines: usize = lines.map(|l| pair_size(&l.claim.left, &l.claim.right) + 2).sum();
+        let lines: usize = lines
+            .map(|l| pair_size(&l.claim.left, &l.claim.right) + 2)
+            .sum();
         let mut offsets = [HEADER; 5];
         offsets[1] = offsets[0] + equations;
         offsets[2] = offsets[1] + rules;
@@ -123,7 +133,10 @@ pub fn read(bytes: &[u8]) -> Result<Content, FileFault> {
 /// The counts, and where each section ends. The first begins after the header.
 fn read_header(bytes: &[u8]) -> Result<([usize; 4], [usize; 4]), FileFault> {
     if bytes.len() < HEADER {
-        return Err(FileFault { number: 14, place: 0 });
+        return Err(FileFault {
+            number: 14,
+            place: 0,
+        });
     }
     let mut counts = [0; 4];
     for (k, count) in counts.iter_mut().enumerate() {
@@ -156,11 +169,19 @@ fn check_sizes(bytes: &[u8], counts: [usize; 4], ends: [usize; 4]) -> Result<(),
         for _ in 0..count {
             match record_end(&bytes[..end], at, kind) {
                 Some(next) => at = next,
-                None => return Err(FileFault { number: 16, place: at }),
+                None => {
+                    return Err(FileFault {
+                        number: 16,
+                        place: at,
+                    })
+                }
             }
         }
         if at < end {
-            return Err(FileFault { number: 16, place: at });
+            return Err(FileFault {
+                number: 16,
+                place: at,
+            });
         }
     }
     Ok(())

@@ -4,10 +4,14 @@ use std::fmt;
 
 pub const ARTICLES: usize = 8;
 
+/// The presence bit of each article, as wide as a count.
+const BITS: [u16; ARTICLES] = [1, 2, 4, 8, 16, 32, 64, 128];
 const LETTERS: [u8; ARTICLES] = *b"abcdefgh";
 
 /// How many pieces of each article, and a bit for each article that is there (bit 0 for article 1).
+/// Aligned, so that a copy is two whole moves.
 #[derive(Clone, Copy, Debug, PartialEq, Eq)]
+#[repr(align(16))]
 pub struct Load {
     counts: [u16; ARTICLES],
     present: u8,
@@ -19,13 +23,16 @@ impl Load {
         present: 0,
     };
 
-    #[inline]
+    #[inline(always)]
     pub fn of(counts: [u16; ARTICLES]) -> Load {
         let mut present = 0;
-        for (article, &count) in counts.iter().enumerate() {
-            present |= u8::from(count != 0) << article;
+        for (&bit, &count) in BITS.iter().zip(&counts) {
+            present |= if count == 0 { 0 } else { bit };
         }
-        Load { counts, present }
+        Load {
+            counts,
+            present: present as u8,
+        }
     }
 
     pub fn counts(&self) -> &[u16; ARTICLES] {
@@ -60,14 +67,14 @@ impl Load {
     }
 
     /// Whether the two have an article in common.
-    #[inline]
+    #[inline(always)]
     pub fn shares(&self, other: &Load) -> bool {
         self.present & other.present != 0
     }
 
     /// Whether no count is smaller than the other's. The bits decide most cases; the counts are compared
     /// without a branch for each, which compiles to a few vector instructions.
-    #[inline]
+    #[inline(always)]
     pub fn contains(&self, other: &Load) -> bool {
         if other.present & !self.present != 0 {
             return false;
@@ -80,7 +87,7 @@ impl Load {
     }
 
     /// The load without `out`, which it contains, and with `into`; None where a count passes 65,535.
-    #[inline]
+    #[inline(always)]
     pub fn exchange(&self, out: &Load, into: &Load) -> Option<Load> {
         let mut kept = [0; ARTICLES];
         for article in 0..ARTICLES {
@@ -90,7 +97,7 @@ impl Load {
     }
 
     /// This load and what `part` has beyond `base`; None where a count passes 65,535.
-    #[inline]
+    #[inline(always)]
     pub fn plus_beyond(&self, part: &Load, base: &Load) -> Option<Load> {
         let mut beyond = [0; ARTICLES];
         for article in 0..ARTICLES {
@@ -124,7 +131,7 @@ impl Load {
 }
 
 /// The sum of two rows of counts; None where a count passes 65,535.
-#[inline]
+#[inline(always)]
 fn sum(a: &[u16; ARTICLES], b: &[u16; ARTICLES]) -> Option<Load> {
     let mut counts = [0; ARTICLES];
     let mut over = false;

@@ -46,7 +46,9 @@ impl<O: Order> Order for Weights<O> {
             let weighed = self.row.iter().zip(load.counts());
             weighed.map(|(&w, &c)| u64::from(w) * u64::from(c)).sum()
         };
-        weigh(a).cmp(&weigh(b)).then_with(|| self.below.compare(a, b))
+        weigh(a)
+            .cmp(&weigh(b))
+            .then_with(|| self.below.compare(a, b))
     }
 }
 
@@ -60,8 +62,13 @@ pub struct Split<A, B> {
 
 impl<A: Order, B: Order> Order for Split<A, B> {
     fn compare(&self, a: &Load, b: &Load) -> Ordering {
-        let marked = self.first.compare(&a.masked(self.marks), &b.masked(self.marks));
-        marked.then_with(|| self.second.compare(&a.masked(!self.marks), &b.masked(!self.marks)))
+        let marked = self
+            .first
+            .compare(&a.masked(self.marks), &b.masked(self.marks));
+        marked.then_with(|| {
+            self.second
+                .compare(&a.masked(!self.marks), &b.masked(!self.marks))
+        })
     }
 }
 

@@ -31,7 +31,11 @@ impl Refusal {
 
 impl fmt::Display for Refusal {
     fn fmt(&self, f: &mut fmt::Formatter<'_>) -> fmt::Result {
-        write!(f, "refused {}: {}, place {}", self.number, self.part, self.place)?;
+        write!(
+            f,
+            "refused {}: {}, place {}",
+            self.number, self.part, self.place
+        )?;
         match self.step {
             Some(step) => write!(f, ", step {step}"),
             None => Ok(()),

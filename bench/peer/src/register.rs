@@ -98,9 +98,7 @@ impl Register {
         if let Err(fault) = outcome {
             self.drop_table();
             return Err(match fault {
-                RoundsFault::Step(stuck) => {
-                    Refusal::new(stuck.fault.number(), "step", stuck.place)
-                }
+                RoundsFault::Step(stuck) => Refusal::new(stuck.fault.number(), "step", stuck.place),
                 RoundsFault::Capacity(place) => Refusal::new(8, "adding", place),
                 RoundsFault::Room(place) => Refusal::new(9, "adding", place),
             });
@@ -168,8 +166,10 @@ impl Register {
     pub fn standard(&self, load: &mut Load, budget: u32) -> Result<u32, Refusal> {
         self.check_settled()?;
         let mut left = budget;
-        *load = table::reduce(&self.rules, load, &mut left, |_| ())
+        let mut end = *load;
+        table::reduce(&self.rules, &mut end, &mut left, |_| ())
             .map_err(|fault| Refusal::new(fault.number(), "step", 1))?;
+        *load = end;
         Ok(budget - left)
     }
 
@@ -183,23 +183,18 @@ impl Register {
     ) -> Result<Matched, Refusal> {
         self.check_settled()?;
         let mut left = budget;
-        let mut standard = |load: &Load, place| {
-            table::reduce(&self.rules, load, &mut left, |_| ())
-                .map(|end| (end, left))
-                .map_err(|fault| Refusal::new(fault.number(), "step", place))
-        };
-        let (first_end, between) = standard(first, 1)?;
-        let (second_end, left) = standard(second, 2)?;
+        let ends = table::reduce_both(&self.rules, &[*first, *second], &mut left)
+            .map_err(|(fault, load)| Refusal::new(fault.number(), "step", load))?;
         let steps = budget - left;
-        if first_end != second_end {
+        if !ends.meet() {
             return Ok(Matched::Different(steps));
         }
         if steps as usize > chain.len() {
             return Err(Refusal::new(10, "match", 0));
         }
-        let (there, back) = chain[..steps as usize].split_at_mut((budget - between) as usize);
-        table::trail_forward(&self.rules, first, there);
-        table::trail_backward(&self.rules, second, back);
+        let (there, back) = chain[..steps as usize].split_at_mut(ends.steps[0] as usize);
+        table::trail_forward(&self.rules, *first, there);
+        table::trail_backward(&self.rules, *second, back);
         Ok(Matched::Equal(steps))
     }
 

@@ -48,7 +48,8 @@ pub fn first_apart(
     for (k, equation) in book.iter().enumerate() {
         let topic = Topic::Equation(k + 1);
         let loads = [equation.left, equation.right];
-        let ends = table::reduce_both(rules, &loads, budget).map_err(|fault| topic.stuck(fault))?;
+        let ends =
+            table::reduce_both(rules, &loads, budget).map_err(|(fault, _)| topic.stuck(fault))?;
         if !ends.meet() {
             return Ok(Some(Apart { topic, loads, ends }));
         }
@@ -58,8 +59,8 @@ pub fn first_apart(
             if first.left.shares(&second.left) {
                 let topic = Topic::Pair(i + 1, j + 1);
                 let loads = from_peak(first, second).ok_or(topic.stuck(StepFault::Overflow))?;
-                let ends =
-                    table::reduce_both(rules, &loads, budget).map_err(|fault| topic.stuck(fault))?;
+                let ends = table::reduce_both(rules, &loads, budget)
+                    .map_err(|(fault, _)| topic.stuck(fault))?;
                 if !ends.meet() {
                     return Ok(Some(Apart { topic, loads, ends }));
                 }
@@ -138,14 +139,21 @@ impl<O: Order> Rounds<'_, O> {
         };
         let left = apart.ends.loads[l];
         let right = apart.ends.loads[r];
-        let kept = self.rules.iter().filter(|rule| !rule.left.contains(&left)).count();
+        let kept = self
+            .rules
+            .iter()
+            .filter(|rule| !rule.left.contains(&left))
+            .count();
         if kept >= self.capacity {
             return Err(RoundsFault::Capacity(apart.topic.place()));
         }
         let middle = self.middle(apart.topic);
         let cited = middle.iter().flatten().count();
         let [up, down] = [apart.ends.steps[l] as usize, apart.ends.steps[r] as usize];
-        if !self.sheet.has_room(up.saturating_add(down).saturating_add(cited)) {
+        if !self
+            .sheet
+            .has_room(up.saturating_add(down).saturating_add(cited))
+        {
             return Err(RoundsFault::Room(apart.topic.place()));
         }
 
@@ -153,7 +161,7 @@ impl<O: Order> Rounds<'_, O> {
         let chain = &mut self.sheet.chain;
         let start = chain.len();
         chain.resize(start + up, 0);
-        table::trail_backward(self.rules, &apart.loads[l], &mut chain[start..]);
+        table::trail_backward(self.rules, apart.loads[l], &mut chain[start..]);
         if l == 0 {
             chain.extend(middle.into_iter().flatten());
         } else {
@@ -161,11 +169,13 @@ impl<O: Order> Rounds<'_, O> {
         }
         let across = chain.len();
         chain.resize(across + down, 0);
-        table::trail_forward(self.rules, &apart.loads[r], &mut chain[across..]);
+        table::trail_forward(self.rules, apart.loads[r], &mut chain[across..]);
         let line = self.sheet.push(Equation { left, right }, start);
 
         self.rules.retain(|rule| !rule.left.contains(&left));
-        let place = self.rules.partition_point(|rule| self.order.above(&left, &rule.left));
+        let place = self
+            .rules
+            .partition_point(|rule| self.order.above(&left, &rule.left));
         self.rules.insert(place, Rule { left, right, line });
         Ok(())
     }
@@ -186,7 +196,8 @@ impl<O: Order> Rounds<'_, O> {
         let code = 32768 + place + 1;
         let Rule { left, right, line } = self.rules[place];
         let before = self.budget;
-        let standard = table::reduce(self.rules, &right, &mut self.budget, |_| ())
+        let mut standard = right;
+        table::reduce(self.rules, &mut standard, &mut self.budget, |_| ())
             .map_err(|fault| Stuck { fault, place: code })?;
         let steps = (before - self.budget) as usize;
         if !self.sheet.has_room(steps.saturating_add(1)) {
@@ -196,7 +207,7 @@ impl<O: Order> Rounds<'_, O> {
         let start = chain.len();
         chain.push(line as i16);
         chain.resize(start + 1 + steps, 0);
-        table::trail_forward(self.rules, &right, &mut chain[start + 1..]);
+        table::trail_forward(self.rules, right, &mut chain[start + 1..]);
         let claim = Equation {
             left,
             right: standard,

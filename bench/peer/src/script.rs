@@ -45,7 +45,10 @@ impl<'a> Iterator for Words<'a> {
     fn next(&mut self) -> Option<&'a [u8]> {
         let start = self.0.iter().position(|&byte| byte != b' ')?;
         let rest = &self.0[start..];
-        let end = rest.iter().position(|&byte| byte == b' ').unwrap_or(rest.len());
+        let end = rest
+            .iter()
+            .position(|&byte| byte == b' ')
+            .unwrap_or(rest.len());
         self.0 = &rest[end..];
         Some(&rest[..end])
     }
@@ -129,7 +132,10 @@ fn read_marks(text: &[u8]) -> Option<u8> {
     if text.is_empty() || !rising || !letters {
         return None;
     }
-    Some(text.iter().fold(0, |marks, byte| marks | 1 << (byte - b'a')))
+    Some(
+        text.iter()
+            .fold(0, |marks, byte| marks | 1 << (byte - b'a')),
+    )
 }
 
 /// Bytes in hexadecimal, or - for none.
@@ -247,7 +253,9 @@ impl Session {
                 let budget = words.number(u32::MAX)?;
                 words.end()?;
                 let settled = under!(&order, o => self.register.settle(o, capacity, budget));
-                tell(out, settled, |out, counts| tell_counts(out, "settled", counts));
+                tell(out, settled, |out, counts| {
+                    tell_counts(out, "settled", counts)
+                });
             }
             b"adopt" => {
                 let order = words.order()?;
@@ -255,18 +263,24 @@ impl Session {
                 read_hex(words.next()?, &mut self.bytes)?;
                 words.end()?;
                 let adopted = under!(&order, o => self.register.adopt(o, &self.bytes, budget));
-                tell(out, adopted, |out, counts| tell_counts(out, "adopted", counts));
+                tell(out, adopted, |out, counts| {
+                    tell_counts(out, "adopted", counts)
+                });
             }
             b"reopen" => {
                 words.end()?;
-                tell(out, self.register.reopen(), |out, ()| write!(out, "reopened"));
+                tell(out, self.register.reopen(), |out, ()| {
+                    write!(out, "reopened")
+                });
             }
             b"standard" => {
                 let mut load = words.load()?;
                 let budget = words.number(u32::MAX)?;
                 words.end()?;
                 let reduced = self.register.standard(&mut load, budget);
-                tell(out, reduced, |out, steps| write!(out, "standard: {load}, {steps} steps"));
+                tell(out, reduced, |out, steps| {
+                    write!(out, "standard: {load}, {steps} steps")
+                });
             }
             b"match" => {
                 let first = words.load()?;
@@ -309,7 +323,9 @@ impl Session {
                 let written = self.register.write(&mut self.bytes, room as usize);
                 tell(out, written, |out, size| {
                     write!(out, "wrote: {size} bytes, ")?;
-                    self.bytes.iter().try_for_each(|byte| write!(out, "{byte:02x}"))
+                    self.bytes
+                        .iter()
+                        .try_for_each(|byte| write!(out, "{byte:02x}"))
                 });
             }
             b"examine" => {
@@ -340,7 +356,11 @@ impl Session {
         }
         for (place, rule) in rules.iter().enumerate() {
             let number = place + 1;
-            let _ = writeln!(out, "rule {number}: {} -> {}, line {}", rule.left, rule.right, rule.line);
+            let _ = writeln!(
+                out,
+                "rule {number}: {} -> {}, line {}",
+                rule.left, rule.right, rule.line
+            );
         }
     }
 
@@ -350,7 +370,13 @@ impl Session {
             out.push_str("no lines\n");
         }
         for (place, equation) in sheet.book.iter().enumerate() {
-            let _ = writeln!(out, "line {}: {} = {}", place + 1, equation.left, equation.right);
+            let _ = writeln!(
+                out,
+                "line {}: {} = {}",
+                place + 1,
+                equation.left,
+                equation.right
+            );
         }
         let mut rest = &sheet.chain[..];
         for (place, line) in sheet.lines.iter().enumerate() {
@@ -386,7 +412,11 @@ fn tell<T>(
 }
 
 fn tell_counts(out: &mut String, what: &str, counts: Counts) -> std::fmt::Result {
-    let Counts { rules, lines, steps } = counts;
+    let Counts {
+        rules,
+        lines,
+        steps,
+    } = counts;
     write!(out, "{what}: {rules} rules, {lines} lines, {steps} steps")
 }
 

@@ -97,10 +97,12 @@ impl Sheet {
     pub fn follow(&self, load: &Load, chain: &[i16], known: usize) -> Result<Load, ReplayFault> {
         let mut load = *load;
         for (place, &number) in chain.iter().enumerate() {
-            load = self.swap(&load, number, known).map_err(|fault| ReplayFault {
-                fault,
-                step: place + 1,
-            })?;
+            load = self
+                .swap(&load, number, known)
+                .map_err(|fault| ReplayFault {
+                    fault,
+                    step: place + 1,
+                })?;
         }
         Ok(load)
     }

@@ -36,20 +36,21 @@ pub fn search<'t>(rules: &'t [Rule], load: &Load) -> Option<&'t Rule> {
 #[inline]
 pub fn reduce(
     rules: &[Rule],
-    load: &Load,
+    load: &mut Load,
     budget: &mut u32,
     mut each: impl FnMut(u16),
-) -> Result<Load, StepFault> {
-    let mut load = *load;
-    while let Some(rule) = search(rules, &load) {
+) -> Result<(), StepFault> {
+    while let Some(rule) = search(rules, load) {
         if *budget == 0 {
             return Err(StepFault::Budget);
         }
-        load = load.exchange(&rule.left, &rule.right).ok_or(StepFault::Overflow)?;
+        *load = load
+            .exchange(&rule.left, &rule.right)
+            .ok_or(StepFault::Overflow)?;
         *budget -= 1;
         each(rule.line);
     }
-    Ok(load)
+    Ok(())
 }
 
 /// Two loads and what they are reduced to, with the steps of each.
@@ -64,24 +65,31 @@ impl Ends {
     }
 }
 
-/// Reduces two loads in turn within one budget.
+/// Reduces two loads in turn within one budget. A fault comes with the load it befell, 1 or 2.
 #[inline]
-pub fn reduce_both(rules: &[Rule], loads: &[Load; 2], budget: &mut u32) -> Result<Ends, StepFault> {
-    let full = *budget;
-    let first = reduce(rules, &loads[0], budget, |_| ())?;
-    let between = *budget;
-    let second = reduce(rules, &loads[1], budget, |_| ())?;
-    Ok(Ends {
-        loads: [first, second],
-        steps: [full - between, between - *budget],
-    })
+pub fn reduce_both(
+    rules: &[Rule],
+    loads: &[Load; 2],
+    budget: &mut u32,
+) -> Result<Ends, (StepFault, usize)> {
+    let mut ends = Ends {
+        loads: *loads,
+        steps: [0; 2],
+    };
+    for place in 0..2 {
+        let before = *budget;
+        reduce(rules, &mut ends.loads[place], budget, |_| ())
+            .map_err(|fault| (fault, place + 1))?;
+        ends.steps[place] = before - *budget;
+    }
+    Ok(ends)
 }
 
 /// Writes the lines of a reduction that is known to end after so many steps as the chain has places.
-pub fn trail_forward(rules: &[Rule], load: &Load, chain: &mut [i16]) {
+pub fn trail_forward(rules: &[Rule], mut load: Load, chain: &mut [i16]) {
     let mut steps = chain.len() as u32;
     let mut places = chain.iter_mut();
-    let _ = reduce(rules, load, &mut steps, |line| {
+    let _ = reduce(rules, &mut load, &mut steps, |line| {
         if let Some(place) = places.next() {
             *place = line as i16;
         }
@@ -89,10 +97,10 @@ pub fn trail_forward(rules: &[Rule], load: &Load, chain: &mut [i16]) {
 }
 
 /// Writes the chain that undoes such a reduction.
-pub fn trail_backward(rules: &[Rule], load: &Load, chain: &mut [i16]) {
+pub fn trail_backward(rules: &[Rule], mut load: Load, chain: &mut [i16]) {
     let mut steps = chain.len() as u32;
     let mut places = chain.iter_mut().rev();
-    let _ = reduce(rules, load, &mut steps, |line| {
+    let _ = reduce(rules, &mut load, &mut steps, |line| {
         if let Some(place) = places.next() {
             *place = -(line as i16);
         }
