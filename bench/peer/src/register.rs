@@ -48,6 +48,10 @@ impl Register {
         &self.rules
     }
 
+    pub fn is_settled(&self) -> bool {
+        self.settled
+    }
+
     fn check_open(&self) -> Result<(), Refusal> {
         if self.settled {
             return Err(Refusal::settled());
