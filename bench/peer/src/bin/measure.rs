@@ -6,7 +6,7 @@ use std::error::Error;
 use std::fs::{self, File};
 use std::path::{Path, PathBuf};
 use std::process::{Command, Stdio};
-use std::time::{Duration, Instant};
+use std::time::Instant;
 
 /// How long a run of the peer should take.
 const AIM: f64 = 1.0;
@@ -45,17 +45,25 @@ impl Case {
     }
 }
 
-fn settled_book() -> String {
-    format!("{BOOK}settle report 128 4219\n")
-}
+/// A book over all eight articles that settles with many rules.
+const WIDE: &str = "\
+enter c = eg
+enter b2de = c2e2f2h
+enter cef = b2de2h
+enter h = d2g2
+enter e = d2eg2h2
+enter a2f2g2 = a
+";
+
+const SETTLE: &str = "settle report 128 4219";
+const SETTLE_WIDE: &str = "settle report 128 184290";
 
 /// The file of the five-equation book, in hexadecimal, made by the peer.
 fn file_of_book() -> String {
     let mut session = Session::new();
-    session.feed(settled_book().as_bytes(), &mut String::new());
+    session.feed(format!("{BOOK}{SETTLE}\n").as_bytes(), &mut String::new());
     let mut bytes = Vec::new();
-    let register = session.register();
-    if register.write(&mut bytes, 40_000).is_err() {
+    if session.register().write(&mut bytes, 40_000).is_err() {
         bytes.clear();
     }
     bytes.iter().map(|byte| format!("{byte:02x}")).collect()
@@ -66,17 +74,22 @@ fn cases() -> Vec<Case> {
     vec![
         Case {
             name: "settle",
-            what:
-                "the five-equation book under report settled (4,219 steps, 90 lines) and reopened",
+            what: "the five-equation book under report settled (4,219 steps, 90 lines) and reopened",
             head: BOOK.into(),
-            calls: lines(&["settle report 128 4219", "reopen"]),
+            calls: lines(&[SETTLE, "reopen"]),
+            counted: "settle",
+        },
+        Case {
+            name: "wide",
+            what: "a book over eight articles under report settled (123 rules, 184,290 steps) and reopened",
+            head: WIDE.into(),
+            calls: lines(&[SETTLE_WIDE, "reopen"]),
             counted: "settle",
         },
         Case {
             name: "standard",
-            what:
-                "that book settled once; standard loads of big loads (20,000 to 240,000 steps each)",
-            head: settled_book(),
+            what: "big loads reduced by the nine rules of the five-equation book (60,000 to 240,000 steps)",
+            head: format!("{BOOK}{SETTLE}\n"),
             calls: lines(&[
                 "standard a60000b60000c60000d60000 4294967295",
                 "standard a65535b30000c2d 4294967295",
@@ -87,10 +100,22 @@ fn cases() -> Vec<Case> {
             counted: "standard",
         },
         Case {
+            name: "search",
+            what: "big loads reduced by the 123 rules of the wide book (200 to 17,000 steps)",
+            head: format!("{WIDE}{SETTLE_WIDE}\n"),
+            calls: lines(&[
+                "standard a60b60c60d60e60f60g60h60 4294967295",
+                "standard d9999e9999g9999 4294967295",
+                "standard b9000d500e20f7000g9000 4294967295",
+                "standard a5000f5000g5000 4294967295",
+                "standard c3000h3000 4294967295",
+            ]),
+            counted: "standard",
+        },
+        Case {
             name: "match",
-            what:
-                "that book settled once; small loads matched, equal with their chains and different",
-            head: settled_book(),
+            what: "small loads of the five-equation book matched: equal with their chains, and different",
+            head: format!("{BOOK}{SETTLE}\n"),
             calls: lines(&[
                 "match a20b30c20d10 c2d 4000 100000",
                 "match a9b9c9d9 a5b2c30d2 4000 100000",
@@ -104,7 +129,7 @@ fn cases() -> Vec<Case> {
         },
         Case {
             name: "adopt",
-            what: "that book's file, with 9 rules and 85 added lines, adopted and reopened",
+            what: "the file of the five-equation book (9 rules, 85 added lines) adopted and reopened",
             head: BOOK.into(),
             calls: vec![
                 format!("adopt report 4294967295 {}", file_of_book()),
@@ -228,8 +253,7 @@ impl Bench {
 }
 
 fn per_call(seconds: f64, calls: usize) -> String {
-    let time = Duration::from_secs_f64(seconds / calls as f64);
-    format!("{:.1} µs", time.as_secs_f64() * 1e6)
+    format!("{:.1} µs", seconds / calls as f64 * 1e6)
 }
 
 fn measure(swaps: PathBuf, peer: PathBuf, repetitions: usize) -> Result<bool, Box<dyn Error>> {
@@ -279,7 +303,7 @@ fn main() -> Result<(), Box<dyn Error>> {
             .to_string_lossy()
             .parse()
             .map_err(|_| "REPETITIONS is a number")?,
-        None => 7,
+        None => 5,
     };
     if !measure(swaps.into(), peer.into(), std::cmp::max(1, repetitions))? {
         std::process::exit(1);
