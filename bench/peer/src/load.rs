@@ -1,5 +1,6 @@
 //! Loads: eight counts, and a presence byte that answers most questions without them.
 
+use std::array;
 use std::fmt;
 
 pub const ARTICLES: usize = 8;
@@ -89,20 +90,14 @@ impl Load {
     /// The load without `out`, which it contains, and with `into`; None where a count passes 65,535.
     #[inline(always)]
     pub fn exchange(&self, out: &Load, into: &Load) -> Option<Load> {
-        let mut kept = [0; ARTICLES];
-        for article in 0..ARTICLES {
-            kept[article] = self.counts[article].wrapping_sub(out.counts[article]);
-        }
+        let kept = array::from_fn(|k| self.counts[k].wrapping_sub(out.counts[k]));
         sum(&kept, &into.counts)
     }
 
     /// This load and what `part` has beyond `base`; None where a count passes 65,535.
     #[inline(always)]
     pub fn plus_beyond(&self, part: &Load, base: &Load) -> Option<Load> {
-        let mut beyond = [0; ARTICLES];
-        for article in 0..ARTICLES {
-            beyond[article] = part.counts[article].saturating_sub(base.counts[article]);
-        }
+        let beyond = array::from_fn(|k| part.counts[k].saturating_sub(base.counts[k]));
         sum(&beyond, &self.counts)
     }
 
