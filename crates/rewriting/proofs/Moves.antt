@@ -44,7 +44,7 @@ context {p} {a} t = record {
 applies-plus : {p : Equation} {a b : Load} (d : Load) → Applies p a b → Applies p (plus a d) (plus b d)
 applies-plus d t = record { fits = λ k. omega (counts, t .fits k); gives = same (λ k. omega (counts, t .fits k, count (t .gives) k)) }
 
-applies-back : {p : Equation} {a b : Load} → Applies p a b → Applies (turned p) b a
+pub applies-back : {p : Equation} {a b : Load} → Applies p a b → Applies (turned p) b a
 applies-back t = record { fits = λ k. omega (counts, t .fits k, count (t .gives) k); gives = same (λ k. omega (counts, t .fits k, count (t .gives) k)) }
 
 -- so it is with steps, swaps and chains of them

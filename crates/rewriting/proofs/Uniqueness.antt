@@ -35,7 +35,7 @@ module _ (above : Relation) (laws : Admissible above) where
       go (is-third na _ _) = na a
 
   -- what a reduction ends in is the same load or below
-  reduces-falls : {table : List Equation} → Falls above table → {a b : Load} → Reduces table a b → (a ≡ b) ⊎ (above a b ≡ true)
+  pub reduces-falls : {table : List Equation} → Falls above table → {a b : Load} → Reduces table a b → (a ≡ b) ⊎ (above a b ≡ true)
   reduces-falls falls none = inl refl
   reduces-falls {table} falls {a} {b} (link {b = m} s p) =
       let h = step-falls above laws table falls s in
