@@ -14,8 +14,8 @@ use Rattle.worksheet.specs.Claims.{claims}
 use Rattle.worksheet.specs.Derivations.{Derivation, derivations}
 use Rattle.worksheet.specs.Replay.{replay, net}
 use Rattle.register.specs.declared.register.Register.{Register}
-use Rattle.register.specs.declared.refusal.Refusal.the-variants as refusal
-use Rattle.register.specs.Refusals.{told}
+use Rattle.refusals.specs.declared.Refusal.the-variants as refusal
+use Rattle.refusals.specs.Refusals.{told}
 use Rattle.register.specs.Calls.{Contents, added-of, lines-of, Replay, Replayed, Refused, Did}
 use Rattle.register.specs.View.{view}
 

@@ -19,10 +19,10 @@ use Rattle.worksheet.specs.declared.rule.Rule.{Rule}
 use Rattle.worksheet.specs.Claims.{nth}
 use Rattle.worksheet.specs.Derivations.{Derivation}
 use Rattle.worksheet.specs.Replay.{replay, net}
-use Rattle.register.specs.declared.refusal.Refusal.{Refusal}
-use Rattle.register.specs.declared.refusal.Refusal.the-variants as refusal
-use Rattle.register.specs.declared.refusal.Told.{Told}
-use Rattle.register.specs.Refusals.{told}
+use Rattle.refusals.specs.declared.Refusal.{Refusal}
+use Rattle.refusals.specs.declared.Refusal.the-variants as refusal
+use Rattle.refusals.specs.declared.Told.{Told}
+use Rattle.refusals.specs.Refusals.{told}
 
 -- the table and the added lines of a settled register
 pub record Sheet : Type 0 where

@@ -1,10 +1,10 @@
 // Entering an equation into the book.
 ghost use Rattle.register.specs.Calls.{Enter, Entered, Did, replied};
 ghost use Rattle.register.specs.View.{view};
-use crate::refusal::Refusal;
 use crate::register::Register;
 use loads::Load;
 use loads::equality::LoadPartialEq;
+use refusals::Refusal;
 use worksheet::equation::Equation;
 
 impl Register {

@@ -2,6 +2,5 @@
 pub mod enter;
 pub mod making;
 pub mod reading;
-pub mod refusal;
 pub mod register;
 pub mod replay;

@@ -1,10 +1,10 @@
 // Following a chain by the lines of a register.
 ghost use Rattle.register.specs.Calls.{Replay, Replayed, Did, replied};
 ghost use Rattle.register.specs.View.{view};
-use crate::refusal::Refusal;
-use crate::refusal::RefusalFromReplay;
 use crate::register::Register;
 use loads::Load;
+use refusals::Refusal;
+use refusals::RefusalFromReplay;
 use worksheet::net::net;
 use worksheet::replay::replay;
 

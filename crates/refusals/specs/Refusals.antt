@@ -8,11 +8,11 @@ use Rattle.std.specs.Written.{decimal}
 use Rattle.worksheet.specs.declared.fault.ReplayFault.{ReplayFault}
 use Rattle.worksheet.specs.declared.fault.SwapFault.{SwapFault}
 use Rattle.worksheet.specs.declared.fault.SwapFault.the-variants.{NoLine, Lacks, Overflow}
-use Rattle.register.specs.declared.refusal.Part.{Part}
-use Rattle.register.specs.declared.refusal.Part.the-variants as part
-use Rattle.register.specs.declared.refusal.Told.{Told}
-use Rattle.register.specs.declared.refusal.Refusal.{Refusal}
-use Rattle.register.specs.declared.refusal.Refusal.the-variants as refusal
+use Rattle.refusals.specs.declared.Part.{Part}
+use Rattle.refusals.specs.declared.Part.the-variants as part
+use Rattle.refusals.specs.declared.Told.{Told}
+use Rattle.refusals.specs.declared.Refusal.{Refusal}
+use Rattle.refusals.specs.declared.Refusal.the-variants as refusal
 
 -- a number, a part and a place
 abbrev pub plain : ℕ → Part → ℕ → Told

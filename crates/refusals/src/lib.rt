@@ -1,8 +1,8 @@
-// Why a call is refused.
+// Why a call is refused, and what is told of it.
 ghost use mathlib.Core.Path.{_≡_};
 ghost use Rattle.std.specs.declared.option.Option.the-variants.{Some};
-ghost use Rattle.register.specs.Refusals.{plain, told, word, sentence};
-ghost use Rattle.register.specs.declared.refusal.Refusal.the-variants.{Replay};
+ghost use Rattle.refusals.specs.Refusals.{plain, told, word, sentence};
+ghost use Rattle.refusals.specs.declared.Refusal.the-variants.{Replay};
 use std::fmt;
 use worksheet::fault::ReplayFault;
 use worksheet::fault::ReplayFaultDebug;
@@ -19,7 +19,7 @@ pub enum Part {
     Replay,
 }
 
-// Why a call is refused.
+// Why a call is refused, and what is told of it.
 #[derive(Clone, Copy, PartialEq, Eq, Debug)]
 pub enum Refusal {
     // the register is settled

@@ -1,0 +1,5 @@
+pub mod Laws
+pub mod Comparing
+pub mod Relations
+pub mod Named
+pub mod Worked
