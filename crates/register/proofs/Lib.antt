@@ -1,2 +1,1 @@
-pub mod Citing
-pub mod Rows
+pub mod Judging

@@ -1,2 +1,5 @@
+pub mod Contents
+pub mod Guarantee
+pub mod Matching
 pub mod Calls
-pub mod View
+pub mod Promises

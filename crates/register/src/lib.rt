@@ -1,6 +1,2 @@
 // The register: a book of equations, a table of rules and a worksheet, in memory that is reserved when it is made.
-pub mod enter;
-pub mod making;
-pub mod reading;
-pub mod register;
-pub mod replay;
+pub mod theorems;
