@@ -76,7 +76,7 @@ entering c e =
 abbrev pub settling : Contents → Relation → (capacity budget : ℕ) → Result Done Refusal
 settling c above capacity budget =
     open-only (c .sheet) >>= λ _.
-    check (ltb 0 capacity && leb capacity 128) refusal.Capacity >>= λ _.
+    check (leb 1 capacity && leb capacity 128) refusal.Capacity >>= λ _.
     marked as-refusal (settle above capacity (c .book) budget) >>= λ x.
     Ok (record {
       reply = Counted (length (x .1 .table)) (length (c .book) + length (x .1 .added)) (x .0);

@@ -7,6 +7,7 @@ use lib.IntN.{ℤ}
 use lib.ListN.{length}
 use Rattle.std.specs.declared.option.Option.{Option}
 use Rattle.std.specs.declared.option.Option.the-variants.{Some, None}
+use Rattle.std.specs.Options.{mapped}
 use Rattle.worksheet.specs.declared.equation.Equation.{Equation}
 use Rattle.worksheet.specs.declared.rule.Rule.{Rule}
 use Rattle.worksheet.specs.Claims.{nth}
@@ -42,11 +43,6 @@ abbrev pub claim-at : Contents → ℕ → Option Equation
 claim-at c zero = None
 claim-at c (suc k) = nth (lines-of c) k
 
--- the chain of a derivation, if there is one
-abbrev pub chain-of : Option Derivation → Option (List ℤ)
-chain-of None = None
-chain-of (Some d) = Some (d .chain)
-
 -- the chain of the added line with a number, counted from 1 over all lines; an equation has none
 abbrev pub chain-at : Contents → ℕ → Option (List ℤ)
-chain-at c n = cond (ltb (length (c .book)) n) (chain-of (nth (added-in (c .sheet)) (n - (length (c .book) + 1)))) None
+chain-at c n = cond (ltb (length (c .book)) n) (mapped (λ d. d .chain) (nth (added-in (c .sheet)) (n - (length (c .book) + 1)))) None

@@ -6,6 +6,7 @@ use crate::input::LineBuffer;
 use crate::memory::NoMemory;
 use crate::memory::NoMemoryFromAlloc;
 use crate::memory::NoMemoryFromFmt;
+use crate::ordering::settle_by;
 use register::register::Register;
 use std::alloc::Global;
 use std::fmt::Write;
@@ -42,6 +43,19 @@ impl Session {
                 Ok(())
             }
             Command::Enter(equation) => tell_entered(self.register.enter(equation), equation, out),
+            Command::Settle(order, capacity, budget) => tell_settled(settle_by(&mut self.register, order, capacity, budget), out),
+            Command::Reopen => tell_reopened(self.register.reopen(), out),
+            Command::Standard(load, budget) => {
+                let mut standard = load;
+                let answer = self.register.standard(&mut standard, budget);
+                tell_standard(answer, standard, out)
+            }
+            Command::Match(first, second, room, budget) => {
+                let mut row = vec![in self.heap; 0i16; room as usize]?;
+                let answer = self.register.match_loads(&first, &second, &mut row, budget);
+                tell_matched(answer, &row, out)
+            }
+            Command::Table => tell_table(&self.register, out),
             Command::Replay(load, chain) => tell_replayed(self.register.replay(&load, &chain), out),
             Command::Lines => tell_lines(&self.register, out),
         }
