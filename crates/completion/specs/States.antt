@@ -1,0 +1,32 @@
+-- What the rounds work on, and what a call on it answers and leaves.
+use mathlib.Core.List.{List, []}
+use Rattle.std.specs.Of.Vec.{vec-items}
+use Rattle.std.specs.declared.result.Result.{Result}
+use Rattle.std.specs.declared.result.Result.the-variants.{Ok, Err}
+use Rattle.loads.specs.Answers.{_>>=_}
+use Rattle.worksheet.specs.declared.rule.Rule.{Rule}
+use Rattle.tables.specs.Rows.{rules-of}
+use Rattle.completion.specs.declared.workings.Workings.{Workings}
+use Rattle.completion.specs.Derivations.{Derivation, derivations}
+
+-- the table, and the lines added to the worksheet
+pub record State : Type 0 where
+  pub table : List Rule
+  pub added : List Derivation
+
+-- no rule and no added line
+abbrev pub blank : State
+blank = record { table = []; added = [] }
+
+-- what the workings hold
+abbrev pub held : Workings → State
+held w = record { table = rules-of (w .table); added = derivations (vec-items (w .lines)) (vec-items (w .chain)) }
+
+-- what a call answers
+abbrev pub answered : {X S E : Type 0} → Result (X × S) E → Result X E
+answered x = x >>= λ p. Ok (p .0)
+
+-- what a call leaves; a refused one leaves all as it was
+abbrev pub leaves : {X S E : Type 0} → S → Result (X × S) E → S
+leaves s (Ok p) = p .1
+leaves s (Err e) = s

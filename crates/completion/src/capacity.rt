@@ -1,0 +1,10 @@
+// How many rules a table may have.
+ghost use Prim.Native.Nat.{_≤_};
+
+// From 1 to 128 rules.
+#[derive(Clone, Copy)]
+pub struct Capacity {
+    rules: usize,
+    ghost some: { 1 ≤ rules },
+    ghost few: { rules ≤ 128 },
+}
