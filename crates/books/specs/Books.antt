@@ -9,7 +9,8 @@ use Rattle.std.specs.declared.result.Result.the-variants.{Ok, Err}
 use Rattle.loads.specs.declared.Load.{Load}
 use Rattle.loads.specs.Answers.{_>>=_}
 use Rattle.loads.specs.Loads.{of-counts}
-use Rattle.orders.specs.Relations.{listed, report-above}
+use Rattle.orders.specs.Relations.{listed}
+use Rattle.orders.specs.Named.{report-above}
 use Rattle.worksheet.specs.declared.equation.Equation.{Equation}
 use Rattle.worksheet.specs.declared.rule.Rule.{Rule}
 use Rattle.rewriting.specs.declared.reduce.StepFault.the-variants.{Spent, Overflow}
@@ -18,7 +19,6 @@ use Rattle.rewriting.specs.Swaps.{equations}
 use Rattle.questions.specs.Placed.{placed}
 use Rattle.completion.specs.declared.fault.RoundFault.{RoundFault}
 use Rattle.completion.specs.declared.fault.RoundFault.the-variants.{Step, Full}
-use Rattle.completion.specs.Derivations.{Derivation}
 use Rattle.completion.specs.States.{State}
 use Rattle.completion.specs.Adding.{rule-of}
 use Rattle.completion.specs.Rounds.{settle}

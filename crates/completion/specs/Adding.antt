@@ -8,16 +8,17 @@ use lib.ListN.{length}
 use Rattle.std.specs.declared.result.Result.{Result}
 use Rattle.std.specs.declared.result.Result.the-variants.{Ok}
 use Rattle.loads.specs.Answers.{_>>=_, check}
+use Rattle.orders.specs.Laws.{Relation}
 use Rattle.worksheet.specs.declared.equation.Equation.{Equation}
 use Rattle.worksheet.specs.declared.rule.Rule.{Rule}
-use Rattle.tables.specs.Placing.{Above, without, enter}
+use Rattle.tables.specs.Placing.{without, enter}
 use Rattle.tables.specs.Trails.{forward, undo}
 use Rattle.questions.specs.declared.question.Bridge.{Bridge}
 use Rattle.questions.specs.declared.question.Bridge.the-variants.{Forward, Backward, Peak}
 use Rattle.questions.specs.Asking.{Parting, turned-parting}
 use Rattle.completion.specs.declared.fault.RoundFault.{RoundFault}
 use Rattle.completion.specs.declared.fault.RoundFault.the-variants.{Full}
-use Rattle.completion.specs.Derivations.{Derivation}
+use Rattle.worksheet.specs.Derivations.{Derivation}
 
 -- the chain from the first load of a question to the second: a line either way, or over the peak by the one rule backward and the other forward
 abbrev pub between : Bridge → List ℤ
@@ -33,7 +34,7 @@ derived p = record {
 }
 
 -- with the higher end first
-abbrev pub oriented : Above → Parting → Parting
+abbrev pub oriented : Relation → Parting → Parting
 oriented above p = cond (above (p .first .end) (p .second .end)) p (turned-parting p)
 
 -- the rule that a line claims, with the line's number
@@ -41,7 +42,7 @@ abbrev pub rule-of : Equation → ℕ → Rule
 rule-of e n = record { left = e .left; right = e .right; line = n }
 
 -- the table with a rule more: rules whose left load contains its left load are removed; then the capacity is checked; then the rule goes to its place
-abbrev pub admit : Above → (capacity place : ℕ) → Rule → List Rule → Result (List Rule) RoundFault
+abbrev pub admit : Relation → (capacity place : ℕ) → Rule → List Rule → Result (List Rule) RoundFault
 admit above capacity place r t =
     check (ltb (length (without (r .left) t)) capacity) (Full place) >>= λ _.
     Ok (enter above r (without (r .left) t))

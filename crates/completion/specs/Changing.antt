@@ -10,7 +10,7 @@ use Rattle.worksheet.specs.declared.rule.Rule.{Rule}
 use Rattle.rewriting.specs.Reducing.{fitting, Way}
 use Rattle.tables.specs.Trails.{forward}
 use Rattle.completion.specs.declared.found.Found.{Found}
-use Rattle.completion.specs.Derivations.{Derivation}
+use Rattle.worksheet.specs.Derivations.{Derivation}
 
 -- the first rule whose right load some rule of t fits; the first of rs stands at place i
 abbrev pub unfinished : List Rule → ℕ → List Rule → Option Found

@@ -1,5 +1,4 @@
-pub mod Lengths
-pub mod Derivations
+pub mod Room
 pub mod States
 pub mod Adding
 pub mod Changing

@@ -6,9 +6,9 @@ use Rattle.std.specs.declared.option.Option.the-variants.{Some, None}
 use Rattle.std.specs.declared.result.Result.{Result}
 use Rattle.std.specs.declared.result.Result.the-variants.{Ok, Err}
 use Rattle.loads.specs.Answers.{_>>=_, check, marked}
+use Rattle.orders.specs.Laws.{Relation}
 use Rattle.worksheet.specs.declared.equation.Equation.{Equation}
 use Rattle.worksheet.specs.declared.rule.Rule.{Rule}
-use Rattle.tables.specs.Placing.{Above}
 use Rattle.questions.specs.Topics.{topics}
 use Rattle.questions.specs.Asking.{Parting, Ending, met, apart, reduce-at, ask-all}
 use Rattle.completion.specs.declared.fault.RoundFault.{RoundFault}
@@ -16,7 +16,8 @@ use Rattle.completion.specs.declared.fault.RoundFault.the-variants.{Step, NoRo
 use Rattle.completion.specs.declared.found.Found.{Found}
 use Rattle.completion.specs.declared.turn.Turn.{Turn}
 use Rattle.completion.specs.declared.turn.Turn.the-variants.{Settled, Again}
-use Rattle.completion.specs.Derivations.{Derivation, roomy}
+use Rattle.worksheet.specs.Derivations.{Derivation}
+use Rattle.completion.specs.Room.{roomy}
 use Rattle.completion.specs.States.{State, blank}
 use Rattle.completion.specs.Adding.{derived, oriented, rule-of, admit}
 use Rattle.completion.specs.Changing.{unfinished, right-place, rederived}
@@ -27,7 +28,7 @@ pub data Wish : Type 0 where
   a-line : (place : ℕ) (new : Derivation) (table : List Rule) (left : ℕ) → Wish
 
 -- add the rule of a parting, the higher end to the other; its line has this number
-abbrev pub add : Above → (capacity number : ℕ) → Parting → List Rule → Result Wish RoundFault
+abbrev pub add : Relation → (capacity number : ℕ) → Parting → List Rule → Result Wish RoundFault
 add above capacity number p t =
     let new = derived (oriented above p) in
     admit above capacity (p .question .place) (rule-of (new .claim) number) t >>= λ t′.
@@ -41,12 +42,12 @@ change number b f t =
     Ok (a-line (right-place (f .place)) new (set t (f .place) (rule-of (new .claim) number)) (b - length (w .trail)))
 
 -- after the questions: at the first that ends in two loads, add a rule; otherwise change the first right load that some rule fits; otherwise nothing
-abbrev pub proceed : Above → (capacity number : ℕ) → List Rule → Ending → Result Wish RoundFault
+abbrev pub proceed : Relation → (capacity number : ℕ) → List Rule → Ending → Result Wish RoundFault
 proceed above capacity number t (apart p) = add above capacity number p t
 proceed above capacity number t (met left) = elim (unfinished t 0 t) [ Some f ↦ change number left f t | None ↦ Ok (nothing left) ]
 
 -- ask about every equation, then every pair, and proceed; the number of a new line is that of the equations and the added lines, with itself
-abbrev pub wish : Above → (capacity : ℕ) → List Equation → (budget : ℕ) → State → Result Wish RoundFault
+abbrev pub wish : Relation → (capacity : ℕ) → List Equation → (budget : ℕ) → State → Result Wish RoundFault
 wish above capacity book b s =
     marked Step (ask-all (s .table) b (topics book (s .table))) >>= proceed above capacity (length book + length (s .added) + 1) (s .table)
 
@@ -58,7 +59,7 @@ note s (a-line place new t left) =
     Ok (Again left, record { table = t; added = s .added ++ (new ∷ []) })
 
 -- one round
-abbrev pub round : Above → (capacity : ℕ) → List Equation → (budget : ℕ) → State → Result (Turn × State) RoundFault
+abbrev pub round : Relation → (capacity : ℕ) → List Equation → (budget : ℕ) → State → Result (Turn × State) RoundFault
 round above capacity book b s = wish above capacity book b s >>= note s
 
 -- where no line may be added any more
@@ -67,12 +68,12 @@ no-more s (nothing left) = Ok (left, s)
 no-more s (a-line place new t left) = Err (NoRoom place)
 
 -- rounds until one is settled, with what is left of the budget; so many lines may still be added
-abbrev pub rounds : Above → (capacity : ℕ) → List Equation → (lines budget : ℕ) → State → Result (ℕ × State) RoundFault
+abbrev pub rounds : Relation → (capacity : ℕ) → List Equation → (lines budget : ℕ) → State → Result (ℕ × State) RoundFault
 rounds above capacity book zero b s = wish above capacity book b s >>= no-more s
 rounds above capacity book (suc n) b s =
     round above capacity book b s >>= λ x.
     elim (x .0) [ Settled left ↦ Ok (left, x .1) | Again left ↦ rounds above capacity book n left (x .1) ]
 
 -- from an empty table; the steps made
-abbrev pub settle : Above → (capacity : ℕ) → List Equation → (budget : ℕ) → Result (ℕ × State) RoundFault
+abbrev pub settle : Relation → (capacity : ℕ) → List Equation → (budget : ℕ) → Result (ℕ × State) RoundFault
 settle above capacity book b = rounds above capacity book 512 b blank >>= λ x. Ok (b - x .0, x .1)

@@ -7,7 +7,7 @@ use Rattle.loads.specs.Answers.{_>>=_}
 use Rattle.worksheet.specs.declared.rule.Rule.{Rule}
 use Rattle.tables.specs.Rows.{rules-of}
 use Rattle.completion.specs.declared.workings.Workings.{Workings}
-use Rattle.completion.specs.Derivations.{Derivation, derivations}
+use Rattle.worksheet.specs.Derivations.{Derivation, derivations}
 
 -- the table, and the lines added to the worksheet
 pub record State : Type 0 where

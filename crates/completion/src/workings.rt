@@ -2,7 +2,7 @@
 ghost use mathlib.Core.Path.{_≡_};
 ghost use Prim.Native.Nat.{_≤_};
 ghost use Rattle.std.specs.Of.Vec.{vec-items, vec-len, vec-cap};
-ghost use Rattle.completion.specs.Lengths.{lengths};
+ghost use Rattle.worksheet.specs.Derivations.{lengths};
 use tables::table::Table;
 use worksheet::line::Line;
 

@@ -1,7 +1,7 @@
 -- The Church-Rosser theorem: local confluence from the critical pairs, and Newman's lemma.
 use mathlib.Core.Path.{_≡_, sym, subst₂}
 use mathlib.Core.Logic.{_⊎_, inl, inr}
-use mathlib.Core.Bool.{Bool, true}
+use mathlib.Core.Bool.{true}
 use mathlib.Core.List.{List}
 use mathlib.Core.WellFounded.{Acc·ndrec}
 use Prim.Native.Nat.{ℕ, min}
@@ -12,7 +12,7 @@ use Rattle.loads.specs.Loads.{at, plus, minus, shared}
 use Rattle.loads.specs.Tests.{Share}
 use Rattle.loads.proofs.Algebra.{same, count, counts}
 use Rattle.loads.proofs.Deciding.{decided, shares-decides}
-use Rattle.orders.specs.Laws.{Admissible}
+use Rattle.orders.specs.Laws.{Admissible, Relation}
 use Rattle.worksheet.specs.declared.equation.Equation.{Equation}
 use Rattle.rewriting.specs.Swaps.{In, Step, none, link, Reduces, Meet}
 use Rattle.rewriting.specs.Settled.{reduct, Falls, Pairs-meet}
@@ -59,7 +59,7 @@ module _ (table : List Equation) (pairs : Pairs-meet table) where
       (same (λ k. omega (counts, s .applies .fits k, u .applies .fits k, count (u .applies .gives) k)))
       (meet-plus d (peak p q (s .held) (u .held)))
 
-module _ (above : Load → Load → Bool) (laws : Admissible above) (table : List Equation) (falls : Falls above table) where
+module _ (above : Relation) (laws : Admissible above) (table : List Equation) (falls : Falls above table) where
   -- a step leads to a lower load
   pub step-falls : {a b : Load} → Step table a b → above a b ≡ true
   step-falls s =

@@ -1,14 +1,14 @@
 -- Every family has exactly one standard load, and it tells the families apart.
 use mathlib.Core.Path.{_≡_, refl, sym, _∙_, subst₂}
 use mathlib.Core.Logic.{_⊎_, inl, inr}
-use mathlib.Core.Bool.{Bool, true}
+use mathlib.Core.Bool.{true}
 use mathlib.Core.List.{List, [], _∷_}
 use mathlib.Core.WellFounded.{Acc·ndrec}
 use Rattle.loads.specs.declared.Load.{Load}
 use Rattle.loads.specs.Loads.{plus, minus}
 use Rattle.loads.specs.Tests.{Contains}
 use Rattle.loads.proofs.Deciding.{decided, contains-decides}
-use Rattle.orders.specs.Laws.{Admissible}
+use Rattle.orders.specs.Laws.{Admissible, Relation}
 use Rattle.worksheet.specs.declared.equation.Equation.{Equation}
 use Rattle.rewriting.specs.Swaps.{In, Step, Swap, none, link, Joined, Reduces, Standard, Meet}
 use Rattle.rewriting.specs.Settled.{Falls, Complete}
@@ -43,7 +43,7 @@ pub record Ending (table : List Equation) (a : Load) : Type 0 where
   pub reached : Reduces table a load
   pub standard : Standard table load
 
-module _ (above : Load → Load → Bool) (laws : Admissible above) (table : List Equation) (falls : Falls above table) where
+module _ (above : Relation) (laws : Admissible above) (table : List Equation) (falls : Falls above table) where
   ending-step : (a : Load) → ((m : Load) → above a m ≡ true → Ending table m) → Ending table a
   ending-step a ih = go (find table a)
     where
@@ -59,7 +59,7 @@ module _ (above : Load → Load → Bool) (laws : Admissible above) (table : Lis
   pub ending : (a : Load) → Ending table a
   ending a = Acc·ndrec {C = Ending table} (λ x _ ih. ending-step x ih) (laws .ends a)
 
-module _ (above : Load → Load → Bool) (laws : Admissible above) (book table : List Equation) (c : Complete above book table) where
+module _ (above : Relation) (laws : Admissible above) (book table : List Equation) (c : Complete above book table) where
   -- a step joins, since its rule follows from the book
   step-joined : (a b : Load) → Step table a b → Joined book a b
   step-joined a b s =

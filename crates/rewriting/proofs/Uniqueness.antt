@@ -1,7 +1,7 @@
 -- A settled table is the only one of its families and its order.
 use mathlib.Core.Path.{_≡_, refl, sym, ap₂, subst}
 use mathlib.Core.Logic.{_⊎_, inl, inr}
-use mathlib.Core.Bool.{Bool, true}
+use mathlib.Core.Bool.{true}
 use mathlib.Core.List.{List, [], _∷_}
 use Prim.Native.Nat.{ℕ, suc, _<_}
 use native.Mathlib.Omega.{arith}
@@ -10,7 +10,7 @@ use Rattle.loads.specs.declared.Load.{Load}
 use Rattle.loads.specs.Loads.{at}
 use Rattle.loads.specs.Tests.{Contains}
 use Rattle.loads.proofs.Algebra.{same}
-use Rattle.orders.specs.Laws.{Exactly-one, is-first, is-second, is-third, Admissible}
+use Rattle.orders.specs.Laws.{Exactly-one, is-first, is-second, is-third, Admissible, Relation}
 use Rattle.worksheet.specs.declared.equation.Equation.{Equation}
 use Rattle.rewriting.specs.Swaps.{In, none, link, Joined, Reduces, Standard, Meet}
 use Rattle.rewriting.specs.Settled.{Falls, Complete, Settled, place}
@@ -24,7 +24,7 @@ use Rattle.rewriting.proofs.Standards.{Fitting, Ending, find, stays, ending, r
 equation-same : {p q : Equation} → p .left ≡ q .left → p .right ≡ q .right → p ≡ q
 equation-same e f = λ i. record { left = e i; right = f i }
 
-module _ (above : Load → Load → Bool) (laws : Admissible above) where
+module _ (above : Relation) (laws : Admissible above) where
   -- the first law, as it is used here
   never-both : (x y : Load) → above x y ≡ true → above y x ≡ true → ⊥
   never-both x y a b = go (laws .one x y)

@@ -1,6 +1,6 @@
 -- When a table decides the families of a book, and when it is reduced as well.
 use mathlib.Core.Path.{_≡_}
-use mathlib.Core.Bool.{Bool, true}
+use mathlib.Core.Bool.{true}
 use mathlib.Core.List.{List}
 use Prim.Native.Nat.{ℕ, suc, _<_}
 use lib.ListN.{length, getD}
@@ -8,6 +8,7 @@ use Rattle.loads.specs.declared.Load.{Load}
 use Rattle.loads.specs.Loads.{shared, empty}
 use Rattle.loads.specs.Tests.{Contains, Share}
 use Rattle.loads.specs.Exchange.{swapped}
+use Rattle.orders.specs.Laws.{Relation}
 use Rattle.worksheet.specs.declared.equation.Equation.{Equation}
 use Rattle.rewriting.specs.Swaps.{In, Joined, Standard, Meet}
 
@@ -21,7 +22,7 @@ abbrev pub reduct : Equation → Equation → Load
 reduct p q = swapped (q .left) (shared (p .left) (q .left)) (p .right)
 
 -- every left load is above its right load
-abbrev pub Falls : (Load → Load → Bool) → List Equation → Type 0
+abbrev pub Falls : Relation → List Equation → Type 0
 Falls above table = (r : Equation) → In r table → above (r .left) (r .right) ≡ true
 
 -- the critical pairs of rules whose left loads share an article meet
@@ -31,14 +32,14 @@ Pairs-meet table =
     → Meet table (reduct (place table i) (place table j)) (reduct (place table j) (place table i))
 
 -- the four conditions by which a table decides a book's families: it falls, its rules follow from the book, and equations and pairs meet
-pub record Complete (above : Load → Load → Bool) (book table : List Equation) : Type 0 where
+pub record Complete (above : Relation) (book table : List Equation) : Type 0 where
   pub falls : Falls above table
   pub follows : (r : Equation) → In r table → Joined book (r .left) (r .right)
   pub equations : (e : Equation) → In e book → Meet table (e .left) (e .right)
   pub pairs : Pairs-meet table
 
 -- a complete table that is reduced: no left load contains another, right loads are standard, and left loads rise
-pub record Settled (above : Load → Load → Bool) (book table : List Equation) : Type 0 where
+pub record Settled (above : Relation) (book table : List Equation) : Type 0 where
   pub complete : Complete above book table
   pub lefts : (i j : ℕ) → i < length table → j < length table → (i ≡ j → ⊥) → Contains (place table i .left) (place table j .left) → ⊥
   pub rights : (r : Equation) → In r table → Standard table (r .right)

@@ -1,13 +1,12 @@
 -- The theorems on tables and families.
 use mathlib.Core.Path.{_≡_}
 use mathlib.Core.Logic.{_↔_}
-use mathlib.Core.Bool.{Bool}
 use mathlib.Core.List.{List}
 use Prim.Native.Nat.{ℕ}
 use Rattle.std.specs.declared.option.Option.the-variants.{None}
 use Rattle.std.specs.declared.result.Result.the-variants.{Ok}
 use Rattle.loads.specs.declared.Load.{Load}
-use Rattle.orders.specs.Laws.{Admissible}
+use Rattle.orders.specs.Laws.{Admissible, Relation}
 use Rattle.worksheet.specs.declared.equation.Equation.{Equation}
 use Rattle.worksheet.specs.declared.rule.Rule.{Rule}
 use Rattle.rewriting.specs.Reducing.{search, Way, reduce}
@@ -17,7 +16,7 @@ use Rattle.rewriting.specs.Settled.{Falls, Pairs-meet, Complete, Settled}
 -- two reductions of one load meet
 abbrev pub Church-Rosser : Type 0
 Church-Rosser =
-    (above : Load → Load → Bool) → Admissible above → (table : List Equation) → Falls above table → Pairs-meet table
+    (above : Relation) → Admissible above → (table : List Equation) → Falls above table → Pairs-meet table
     → (a b c : Load) → Reduces table a b → Reduces table a c → Meet table b c
 
 -- there is exactly one
@@ -27,27 +26,27 @@ Only P = (s : Load) × P s × ((s′ : Load) → P s′ → s′ ≡ s)
 -- every family has exactly one standard load
 abbrev pub One-standard : Type 0
 One-standard =
-    (above : Load → Load → Bool) → Admissible above → (book table : List Equation) → Complete above book table
+    (above : Relation) → Admissible above → (book table : List Equation) → Complete above book table
     → (a : Load) → Only (λ s. Joined book a s × Standard table s)
 
 -- two loads are of one family exactly when their standard loads are the same
 abbrev pub Families : Type 0
 Families =
-    (above : Load → Load → Bool) → Admissible above → (book table : List Equation) → Complete above book table
+    (above : Relation) → Admissible above → (book table : List Equation) → Complete above book table
     → (a b s s′ : Load) → Joined book a s → Standard table s → Joined book b s′ → Standard table s′
     → (Joined book a b ↔ (s ≡ s′))
 
 -- so to reduce both is to decide whether they are of one family
 abbrev pub Reducing-tells : Type 0
 Reducing-tells =
-    (above : Load → Load → Bool) → Admissible above → (book table : List Equation) → Complete above book table
+    (above : Relation) → Admissible above → (book table : List Equation) → Complete above book table
     → (a b s s′ : Load) → Reduces table a s → Standard table s → Reduces table b s′ → Standard table s′
     → (Joined book a b ↔ (s ≡ s′))
 
 -- two settled tables under one relation are the same place for place exactly when their books join the same loads
 abbrev pub One-table : Type 0
 One-table =
-    (above : Load → Load → Bool) → Admissible above → (book book′ table table′ : List Equation)
+    (above : Relation) → Admissible above → (book book′ table table′ : List Equation)
     → Settled above book table → Settled above book′ table′
     → ((table ≡ table′) ↔ ((a b : Load) → Joined book a b ↔ Joined book′ a b))
 

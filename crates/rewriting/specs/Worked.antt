@@ -4,7 +4,7 @@ use mathlib.Core.List.{List, [], _∷_}
 use Prim.Native.Nat.{ℕ}
 use Rattle.std.specs.declared.result.Result.the-variants.{Ok, Err}
 use Rattle.loads.specs.declared.Load.{Load}
-use Rattle.orders.specs.Relations.{report-above}
+use Rattle.orders.specs.Named.{report-above}
 use Rattle.orders.specs.Worked.{abc}
 use Rattle.worksheet.specs.declared.equation.Equation.{Equation}
 use Rattle.worksheet.specs.declared.rule.Rule.{Rule}
