@@ -1,7 +1,8 @@
 -- Chains of line numbers, and the lines that a reduction uses.
 use mathlib.Core.List.{List, [], _∷_, _++_, map}
-use Prim.Native.Nat.{ℕ, zero, suc}
+use Prim.Native.Nat.{ℕ, zero, suc, _-_}
 use lib.IntN.{ℤ, pos, negℤ}
+use lib.ListN.{length, take, drop}
 use Rattle.std.specs.declared.option.Option.{Option}
 use Rattle.std.specs.declared.option.Option.the-variants.{Some, None}
 use Rattle.std.specs.declared.result.Result.the-variants.{Ok, Err}
@@ -9,7 +10,7 @@ use Rattle.loads.specs.declared.Load.{Load}
 use Rattle.loads.specs.Exchange.{swapped}
 use Rattle.worksheet.specs.declared.rule.Rule.{Rule}
 use Rattle.rewriting.specs.Reducing.{fitting, sized}
-use Rattle.tables.specs.declared.table.trails.Stride.{Stride}
+use Rattle.tables.specs.declared.stride.Stride.{Stride}
 
 -- the chain that cites each line forward
 abbrev pub forward : List ℕ → List ℤ
@@ -32,3 +33,11 @@ stride t a = elim (fitting t a) [ None ↦ None | Some r ↦ stride-by a r ]
 abbrev pub trail : List Rule → ℕ → Load → List ℕ
 trail t zero a = []
 trail t (suc n) a = elim (stride t a) [ None ↦ [] | Some s ↦ s .line ∷ trail t n (s .load) ]
+
+-- a row with a chain written over its front
+abbrev pub over-front : List ℤ → List ℤ → List ℤ
+over-front zs row = zs ++ drop (length zs) row
+
+-- a row with a chain written over its back
+abbrev pub over-back : List ℤ → List ℤ → List ℤ
+over-back zs row = take (length row - length zs) row ++ zs

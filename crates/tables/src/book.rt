@@ -10,3 +10,5 @@ pub struct Book {
     ghost room: { 32 ≤ vec-cap equations },
     ghost few: { vec-len equations ≤ 32 },
 }
+
+pub mod entering;

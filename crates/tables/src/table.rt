@@ -15,4 +15,6 @@ pub struct Table {
     ghost cited: { citable (vec-items rules) ≡ true },
 }
 
+pub mod making;
+pub mod placing;
 pub mod trails;
