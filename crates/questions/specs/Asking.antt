@@ -65,6 +65,10 @@ ask-all t b (k ∷ ks) = form k >>= λ q. ask t b q >>= go-on (λ left. ask-all 
 abbrev pub fork-of : Parting → Fork
 fork-of p = record { question = p .question; first = counted (p .first); second = counted (p .second); left = p .left }
 
+-- a fork with its loads changed over
+abbrev pub turned-fork : Fork → Fork
+turned-fork f = record { question = turned-question (f .question); first = f .second; second = f .first; left = f .left }
+
 -- what is told of an ending
 abbrev pub outcome-of : Ending → Outcome
 outcome-of (met left) = Met left
