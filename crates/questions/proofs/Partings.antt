@@ -19,25 +19,17 @@ use Rattle.rewriting.specs.Settled.{reduct}
 use Rattle.tables.specs.Citing.{citable}
 use Rattle.tables.proofs.Citing.{citable-parts}
 use Rattle.questions.specs.declared.placed.Placed.{Placed}
-use Rattle.questions.specs.declared.question.Bridge.{Bridge}
-use Rattle.questions.specs.declared.question.Bridge.the-variants.{Forward, Backward, Peak}
 use Rattle.questions.specs.declared.question.Question.{Question}
 use Rattle.questions.specs.declared.question.Fork.{Fork}
 use Rattle.questions.specs.declared.question.Outcome.the-variants.{Forked}
 use Rattle.questions.specs.Placed.{placed}
 use Rattle.questions.specs.Topics.{Topic, entry, peak, entries, peaks-with, peaks, topics}
-use Rattle.questions.specs.Questions.{pair-place, form}
+use Rattle.questions.specs.Questions.{pair-place, form, Cited}
 use Rattle.questions.specs.Asking.{Parting, Ending, met, apart, ending, reduce-at, ask, go-on, ask-all, fork-of, outcome}
 use Rattle.questions.proofs.Answering.{made-bind, made-at}
 use Rattle.questions.proofs.Walking.{Walked, reduce-walked}
 
--- the lines of a bridge can be cited
-abbrev pub Cited : Bridge → Type 0
-Cited (Forward k) = k ≤ 544
-Cited (Backward k) = k ≤ 544
-Cited (Peak i j) = (i ≤ 544) × (j ≤ 544)
-
--- so can those of a topic
+-- a chain can cite the lines of a topic
 abbrev Cites : Topic → Type 0
 Cites (entry k e) = k ≤ 544
 Cites (peak i r j s) = (r .line ≤ 544) × (s .line ≤ 544)
