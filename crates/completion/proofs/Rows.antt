@@ -5,8 +5,8 @@ use Prim.Native.Nat.{ℕ, _+_, _-_, _≤_}
 use native.Mathlib.Omega.{arith}
 use borrow.Rule.Slice.PartMut.{putMid, postOf}
 use lib.IntN.{ℤ, pos, negℤ}
-use lib.ListN.{length, set, take, drop, length-append, length-take, length-drop, length-map}
-use Rattle.std.proofs.shelf.Lists.{append-nil, append-assoc, take-at, drop-all}
+use lib.ListN.{length, replicate, set, take, drop, length-append, length-take, length-drop, length-map}
+use Rattle.std.proofs.shelf.Lists.{append-nil, append-assoc, length-replicate, take-all, take-at, drop-all}
 use Rattle.std.proofs.shelf.Parts.{take-putMid}
 use Rattle.loads.specs.declared.Load.{Load}
 use Rattle.worksheet.specs.declared.rule.Rule.{Rule}
@@ -50,10 +50,21 @@ module _ {X : Type 0} where
         ∙ ap (λ x. xs ++ ys ++ x) (append-nil zs)
         ∙ append-assoc xs ys zs
 
-length-forward : (ns : List ℕ) → length (forward ns) ≡ length ns
+-- a row that was made longer by n places, which are then written with zs
+module _ {X : Type 0} (old row zs : List X) (z : X) (m n : ℕ) (long : length old ≡ m) (grown : row ≡ take (m + n) old ++ replicate (m + n - m) z) (written : length zs ≡ n) where
+  pub length-grown : length row ≡ m + n
+  length-grown = ap length grown ∙ omega (arith, length-append (take (m + n) old) (replicate (m + n - m) z), length-take (m + n) old, length-replicate (m + n - m) z)
+
+  pub row-pushed : take m row ++ (zs ++ postOf m (length row - m) row) ≡ old ++ zs
+  row-pushed =
+      ap₂ (λ x y. x ++ (zs ++ y)) (ap (take m) grown ∙ ap (λ x. take m (x ++ replicate (m + n - m) z)) (take-all (m + n) old (omega arith)) ∙ take-at old (replicate (m + n - m) z) m long)
+      (drop-all (length row - m) (drop m row) (omega (arith, length-drop m row)))
+      ∙ ap (λ x. old ++ x) (append-nil zs)
+
+pub length-forward : (ns : List ℕ) → length (forward ns) ≡ length ns
 length-forward ns = length-map ns pos
 
-length-undo : (zs : List ℤ) → length (undo zs) ≡ length zs
+pub length-undo : (zs : List ℤ) → length (undo zs) ≡ length zs
 length-undo [] = refl
 length-undo (z ∷ zs) = let ih = length-undo zs in omega (arith, length-append (undo zs) (negℤ z ∷ []))
 
