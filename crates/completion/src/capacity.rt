@@ -8,3 +8,5 @@ pub struct Capacity {
     ghost some: { 1 ≤ rules },
     ghost few: { rules ≤ 128 },
 }
+
+pub mod limits;

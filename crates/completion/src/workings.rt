@@ -17,3 +17,7 @@ pub struct Workings {
     ghost few: { (vec-len lines ≤ 512) × (vec-len chain ≤ 4096) },
     ghost summed: { lengths (vec-items lines) ≡ vec-len chain },
 }
+
+pub mod making;
+pub mod noting;
+pub mod reading;

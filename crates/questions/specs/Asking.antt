@@ -9,8 +9,10 @@ use Rattle.loads.specs.declared.Load.{Load}
 use Rattle.loads.specs.Answers.{_>>=_, marked}
 use Rattle.loads.specs.Tests.{alike}
 use Rattle.worksheet.specs.declared.rule.Rule.{Rule}
+use Rattle.rewriting.specs.declared.reduce.Reduced.{Reduced}
 use Rattle.rewriting.specs.declared.reduce.StepFault.{StepFault}
 use Rattle.rewriting.specs.Reducing.{Way, reduce, counted}
+use Rattle.tables.specs.Trails.{trail}
 use Rattle.questions.specs.declared.placed.Placed.{Placed}
 use Rattle.questions.specs.declared.question.Question.{Question}
 use Rattle.questions.specs.declared.question.Fork.{Fork}
@@ -64,6 +66,18 @@ ask-all t b (k ∷ ks) = form k >>= λ q. ask t b q >>= go-on (λ left. ask-all 
 -- the parting with its steps counted: the line numbers are not told
 abbrev pub fork-of : Parting → Fork
 fork-of p = record { question = p .question; first = counted (p .first); second = counted (p .second); left = p .left }
+
+-- the way of so many steps in a table, from a load to an end
+abbrev pub way-of : List Rule → Load → Reduced → Way
+way-of t a x = record { end = x .end; trail = trail t (x .steps) a }
+
+-- the parting of a fork in a table
+abbrev pub parting-of : List Rule → Fork → Parting
+parting-of t f = record { question = f .question; first = way-of t (f .question .first) (f .first); second = way-of t (f .question .second) (f .second); left = f .left }
+
+-- a fork with its loads changed over
+abbrev pub turned-fork : Fork → Fork
+turned-fork f = record { question = turned-question (f .question); first = f .second; second = f .first; left = f .left }
 
 -- what is told of an ending
 abbrev pub outcome-of : Ending → Outcome

@@ -1,5 +1,5 @@
 -- The question that each topic leads to.
-use Prim.Native.Nat.{ℕ, _+_, _*_}
+use Prim.Native.Nat.{ℕ, _+_, _*_, _≤_}
 use Rattle.std.specs.declared.result.Result.{Result}
 use Rattle.std.specs.declared.result.Result.the-variants.{Ok}
 use Rattle.loads.specs.Answers.{_>>=_, marked}
@@ -35,3 +35,9 @@ turned-bridge (Peak i j) = Peak j i
 -- the question with its loads changed over
 abbrev pub turned-question : Question → Question
 turned-question q = record { place = q .place; first = q .second; second = q .first; bridge = turned-bridge (q .bridge) }
+
+-- a chain can cite the lines of a bridge
+abbrev pub Cited : Bridge → Type 0
+Cited (Forward k) = k ≤ 544
+Cited (Backward k) = k ≤ 544
+Cited (Peak i j) = (i ≤ 544) × (j ≤ 544)

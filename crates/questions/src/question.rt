@@ -1,4 +1,7 @@
 // Questions and what comes of them.
+ghost use mathlib.Core.Path.{_≡_};
+ghost use Rattle.questions.specs.Questions.{turned-bridge};
+ghost use Rattle.questions.specs.Asking.{turned-fork};
 use loads::Load;
 use rewriting::reduce::Reduced;
 
@@ -34,4 +37,36 @@ pub struct Fork {
 pub enum Outcome {
     Met(u32),
     Forked(Fork),
+}
+
+impl Bridge {
+    // What leads from the second load to the first.
+    fn turned(&self) -> Bridge
+        ensures { λ r. ⌜ r ≡ turned-bridge (now (self .entry)) ⌝ }
+    {
+        match *self {
+            Bridge::Forward(k) => Bridge::Backward(k),
+            Bridge::Backward(k) => Bridge::Forward(k),
+            Bridge::Peak(i, j) => Bridge::Peak(j, i),
+        }
+    }
+}
+
+impl Fork {
+    // The fork with its two loads changed over.
+    pub fn turned(&self) -> Fork
+        ensures { λ r. ⌜ r ≡ turned-fork (now (self .entry)) ⌝ }
+    {
+        Fork {
+            question: Question {
+                place: self.question.place,
+                first: self.question.second,
+                second: self.question.first,
+                bridge: self.question.bridge.turned(),
+            },
+            first: self.second,
+            second: self.first,
+            left: self.left,
+        }
+    }
 }
