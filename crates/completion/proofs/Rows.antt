@@ -70,11 +70,11 @@ length-undo (z ∷ zs) = let ih = length-undo zs in omega (arith, length-append 
 
 -- a trail that fills the row
 module _ (t : List Rule) (n : ℕ) (a : Load) (row : List ℤ) (fits : length row ≡ n) (full : length (trail t n a) ≡ n) where
-  follow-fills : over-front (forward (trail t (length row) a)) row ≡ forward (trail t n a)
+  pub follow-fills : over-front (forward (trail t (length row) a)) row ≡ forward (trail t n a)
   follow-fills =
       rw fits (ap (λ x. forward (trail t n a) ++ x) (drop-all (length (forward (trail t n a))) row (omega (arith, length-forward (trail t n a)))) ∙ append-nil (forward (trail t n a)))
 
-  undo-fills : over-back (undo (forward (trail t (length row) a))) row ≡ undo (forward (trail t n a))
+  pub undo-fills : over-back (undo (forward (trail t (length row) a))) row ≡ undo (forward (trail t n a))
   undo-fills = ap (λ k. over-back (undo (forward (trail t k a))) row) fits ∙ ap (λ k. take k row ++ undo (forward (trail t n a))) none
     where
       none : length row - length (undo (forward (trail t n a))) ≡ 0

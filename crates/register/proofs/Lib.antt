@@ -1,3 +1,6 @@
 pub mod Judging
 pub mod Viewing
 pub mod Replaying
+pub mod Entering
+pub mod Answering
+pub mod Between

@@ -1,6 +1,11 @@
 // Whether one load can be turned into another.
-ghost use lib.ListN.{length};
+ghost use mathlib.Core.Path.{_≡_};
+ghost use mathlib.Core.List.{_++_};
+ghost use Prim.Native.Nat.{_≤_};
+ghost use lib.ListN.{length, take, drop};
 ghost use Rattle.std.specs.Results.{Cases};
+ghost use Rattle.tables.specs.Rows.{rules-of};
+ghost use Rattle.tables.specs.Trails.{forward, undo, trail, over-front, over-back};
 ghost use Rattle.register.specs.Calls.{Match, Matched, Did, replied};
 ghost use Rattle.register.specs.Lent.{told-verdict, Chain-kept};
 ghost use Rattle.register.specs.Promises.{Match-is-right};
@@ -14,6 +19,16 @@ use questions::placed::ResultAtPlace;
 use refusals::Refusal;
 use refusals::RefusalFromStep;
 use rewriting::reduce::reduce;
+use tables::table::Table;
+
+// Writes over a row the line numbers of so many steps from the first load, forward, and then those from the second load, backward.
+fn write_between(table: &Table, first: &Load, second: &Load, steps: usize, row: &mut [i16])
+    requires { ⌜ steps ≤ length (now row) ⌝ }
+    ensures { λ _. ⌜ now (row .exit) ≡ over-front (forward (trail (rules-of (now (table .entry))) (length (take steps (now (row .entry)))) (now (first .entry)))) (take steps (now (row .entry))) ++ over-back (undo (forward (trail (rules-of (now (table .entry))) (length (drop steps (now (row .entry)))) (now (second .entry))))) (drop steps (now (row .entry))) ⌝ }
+{
+    table.follow(first, &mut row[0..steps]);
+    table.undo(second, &mut row[steps..]);
+}
 
 impl Register {
     // Reduces the first load, then the second, within one budget, and says whether swaps of the book join them. When they do, the first places of the
@@ -36,14 +51,14 @@ impl Register {
         let one = reduce(table.rules(), first, budget).at(1)?;
         let two = reduce(table.rules(), second, budget - one.steps).at(2)?;
         let steps = one.steps + two.steps;
-        if one.end != two.end {
+        let same = one.end == two.end;
+        if !same {
             return Ok(Verdict::Different(steps));
         }
         if steps as usize > chain.len() {
             return Err(Refusal::ShortChain);
         }
-        table.follow(first, &mut chain[0..one.steps as usize]);
-        table.undo(second, &mut chain[one.steps as usize..steps as usize]);
+        write_between(table, first, second, one.steps as usize, &mut chain[0..steps as usize]);
         Ok(Verdict::Equal(steps))
     }
 }

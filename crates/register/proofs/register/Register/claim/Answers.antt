@@ -9,4 +9,4 @@ use Rattle.register.proofs.register.Register.claim.Needs as need
 pub returns : need.returns
 returns c =
     let g = c .args .self .now in
-    c .claim-at .ensures ∙ ap (λ ls. nth ls (c .args .number - 1)) (sym (lines-shown g _ _ ? ?)) ∙ sym (claim-numbered (view g) (c .args .number) (omega arith))
+    c .claim-at .ensures ∙ ap (λ ls. nth ls (c .args .number - 1)) (sym (lines-shown g _ _ (c .equations .ensures .value) (c .lines .ensures))) ∙ sym (claim-numbered (view g) (c .args .number) (omega arith))

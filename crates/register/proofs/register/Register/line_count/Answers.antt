@@ -7,4 +7,4 @@ use Rattle.register.proofs.register.Register.line_count.Needs as need
 pub returns : need.returns
 returns c =
     let g = c .args .self .now in
-    sym (ap length (lines-shown g _ _ refl refl) ∙ simp (length-append, length-map) ?)
+    sym (ap length (lines-shown g _ _ refl refl) ∙ simp (length-append, length-map) (search needs))
