@@ -7,6 +7,7 @@ use crate::memory::NoMemory;
 use crate::memory::NoMemoryFromAlloc;
 use crate::memory::NoMemoryFromFmt;
 use crate::ordering::settle_by;
+use crate::words::passed_over;
 use register::register::Register;
 use std::alloc::Global;
 use std::fmt::Write;
@@ -65,9 +66,12 @@ impl Session {
     fn answer(&mut self, out: &mut String) -> Result<(), NoMemory> {
         let command = match self.input.line() {
             None => None,
-            Some([]) => return Ok(()),
-            Some([b'#', ..]) => return Ok(()),
-            Some(line) => read_command(line, self.heap)?,
+            Some(line) => {
+                if passed_over(line) {
+                    return Ok(());
+                }
+                read_command(line, self.heap)?
+            }
         };
         match command {
             Some(command) => self.perform(command, out),
