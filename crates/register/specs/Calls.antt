@@ -134,3 +134,8 @@ replied f (Err e) = Refused (told e)
 pub record Did (before : Contents) (call : Call) (reply : Reply) (after : Contents) : Type 0 where
   pub said : perform before call .reply ≡ reply
   pub left : perform before call .contents ≡ after
+
+-- what a register holds after calls, each finding what the one before left
+abbrev pub after-calls : Contents → List Call → Contents
+after-calls c [] = c
+after-calls c (call ∷ calls) = after-calls (perform c call .contents) calls

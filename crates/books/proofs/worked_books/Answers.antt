@@ -5,4 +5,4 @@ use Rattle.books.proofs.worked_books.Needs as need
 
 pub returns : need.returns
 unfolding contains alike shares fits listed weighed
-returns c = (refl, refl, refl, refl, refl, refl, refl)
+returns c = (refl, refl, refl, refl, refl)
