@@ -18,5 +18,6 @@ pub struct Workings {
     ghost summed: { lengths (vec-items lines) ≡ vec-len chain },
 }
 
+pub mod adding;
 pub mod making;
 pub mod noting;
