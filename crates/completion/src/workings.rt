@@ -19,5 +19,6 @@ pub struct Workings {
 }
 
 pub mod adding;
+pub mod changing;
 pub mod making;
 pub mod noting;
