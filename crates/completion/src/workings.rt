@@ -22,3 +22,4 @@ pub mod adding;
 pub mod changing;
 pub mod making;
 pub mod noting;
+pub mod rounds;
