@@ -9,6 +9,7 @@ use lib.ListN.{length, length-append}
 use Rattle.std.specs.Of.Vec.{vec-items, vec-len}
 use Rattle.std.proofs.shelf.Tests.{and-parts, ltb-true, leb-true}
 use Rattle.worksheet.specs.declared.rule.Rule.{Rule}
+use Rattle.worksheet.specs.Derivations.{Derivation}
 use Rattle.questions.specs.declared.question.Fork.{Fork}
 use Rattle.questions.specs.Asking.{parting-of, fork-of}
 use Rattle.tables.specs.Trails.{trail, forward, undo}
@@ -49,3 +50,8 @@ derived-length t f e =
       length-forward (trail t (f .first .steps) (f .question .first)),
       length-forward (trail t (f .second .steps) (f .question .second)),
     )
+
+-- the room that it takes, by its counted length
+pub derived-room : (ds : List Derivation) (t : List Rule) (f : Fork) (n : ℕ) → fork-of (parting-of t f) ≡ f → n ≡ f .first .steps + (length (between (f .question .bridge)) + f .second .steps)
+    → roomy ds (length (derived (parting-of t f) .chain)) ≡ roomy ds n
+derived-room ds t f n e is = ap (roomy ds) (derived-length t f e ∙ sym is)

@@ -15,7 +15,8 @@ use Rattle.tables.specs.Placing.{without, enter}
 use Rattle.tables.specs.Trails.{forward, undo}
 use Rattle.questions.specs.declared.question.Bridge.{Bridge}
 use Rattle.questions.specs.declared.question.Bridge.the-variants.{Forward, Backward, Peak}
-use Rattle.questions.specs.Asking.{Parting, turned-parting}
+use Rattle.questions.specs.declared.question.Fork.{Fork}
+use Rattle.questions.specs.Asking.{Parting, turned-parting, turned-fork}
 use Rattle.completion.specs.declared.fault.RoundFault.{RoundFault}
 use Rattle.completion.specs.declared.fault.RoundFault.the-variants.{Full}
 use Rattle.worksheet.specs.Derivations.{Derivation}
@@ -36,6 +37,10 @@ derived p = record {
 -- with the higher end first
 abbrev pub oriented : Relation → Parting → Parting
 oriented above p = cond (above (p .first .end) (p .second .end)) p (turned-parting p)
+
+-- the same of a fork
+abbrev pub oriented-fork : Relation → Fork → Fork
+oriented-fork above f = cond (above (f .first .end) (f .second .end)) f (turned-fork f)
 
 -- the rule that a line claims, with the line's number
 abbrev pub rule-of : Equation → ℕ → Rule

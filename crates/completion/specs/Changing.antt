@@ -7,8 +7,11 @@ use Rattle.std.specs.Options.{isSome}
 use Rattle.std.specs.declared.option.Option.{Option}
 use Rattle.std.specs.declared.option.Option.the-variants.{Some, None}
 use Rattle.worksheet.specs.declared.rule.Rule.{Rule}
+use Rattle.rewriting.specs.declared.reduce.Reduced.{Reduced}
 use Rattle.rewriting.specs.Reducing.{fitting, Way}
 use Rattle.tables.specs.Trails.{forward}
+use Rattle.questions.specs.declared.question.Bridge.the-variants.{Forward}
+use Rattle.questions.specs.declared.question.Fork.{Fork}
 use Rattle.completion.specs.declared.found.Found.{Found}
 use Rattle.worksheet.specs.Derivations.{Derivation}
 
@@ -24,3 +27,12 @@ right-place i = 32768 + (i + 1)
 -- the line of a rule whose right load went the way w: its old line, then the way
 abbrev pub rederived : Rule → Way → Derivation
 rederived r w = record { claim = record { left = r .left; right = w .end }; chain = pos (r .line) ∷ forward (w .trail) }
+
+-- the change as a fork: the old line leads from the left load, which stays, to the right load
+abbrev pub renewal : Rule → (place : ℕ) → Reduced → (left : ℕ) → Fork
+renewal r place x left = record {
+  question = record { place = place; first = r .left; second = r .right; bridge = Forward (r .line) };
+  first = record { end = r .left; steps = 0 };
+  second = x;
+  left = left;
+}

@@ -10,7 +10,8 @@ use Rattle.orders.specs.Laws.{Relation}
 use Rattle.worksheet.specs.declared.equation.Equation.{Equation}
 use Rattle.worksheet.specs.declared.rule.Rule.{Rule}
 use Rattle.questions.specs.Topics.{topics}
-use Rattle.questions.specs.Asking.{Parting, Ending, met, apart, reduce-at, ask-all}
+use Rattle.questions.specs.declared.question.Fork.{Fork}
+use Rattle.questions.specs.Asking.{Parting, Ending, met, apart, reduce-at, ask-all, parting-of}
 use Rattle.completion.specs.declared.fault.RoundFault.{RoundFault}
 use Rattle.completion.specs.declared.fault.RoundFault.the-variants.{Step, NoRoom}
 use Rattle.completion.specs.declared.found.Found.{Found}
@@ -46,10 +47,13 @@ abbrev pub proceed : Relation → (capacity number : ℕ) → List Rule → Endi
 proceed above capacity number t (apart p) = add above capacity number p t
 proceed above capacity number t (met left) = elim (unfinished t 0 t) [ Some f ↦ change number left f t | None ↦ Ok (nothing left) ]
 
--- ask about every equation, then every pair, and proceed; the number of a new line is that of the equations and the added lines, with itself
+-- the number of the next line, where the book has n equations: all lines, and itself
+abbrev pub next-line : (n : ℕ) → State → ℕ
+next-line n s = n + length (s .added) + 1
+
+-- ask about every equation, then every pair, and proceed
 abbrev pub wish : Relation → (capacity : ℕ) → List Equation → (budget : ℕ) → State → Result Wish RoundFault
-wish above capacity book b s =
-    marked Step (ask-all (s .table) b (topics book (s .table))) >>= proceed above capacity (length book + length (s .added) + 1) (s .table)
+wish above capacity book b s = marked Step (ask-all (s .table) b (topics book (s .table))) >>= proceed above capacity (next-line (length book) s) (s .table)
 
 -- note the line, if there is room for it
 abbrev pub note : State → Wish → Result (Turn × State) RoundFault
@@ -58,9 +62,20 @@ note s (a-line place new t left) =
     check (roomy (s .added) (length (new .chain))) (NoRoom place) >>= λ _.
     Ok (Again left, record { table = t; added = s .added ++ (new ∷ []) })
 
+-- what comes of a wish
+abbrev pub granted : State → Result Wish RoundFault → Result (Turn × State) RoundFault
+granted s w = w >>= note s
+
 -- one round
 abbrev pub round : Relation → (capacity : ℕ) → List Equation → (budget : ℕ) → State → Result (Turn × State) RoundFault
-round above capacity book b s = wish above capacity book b s >>= note s
+round above capacity book b s = granted s (wish above capacity book b s)
+
+-- what comes of a fork, and of a right load that some rule fits, where the book has n equations
+abbrev pub forked : Relation → (capacity n : ℕ) → Fork → State → Result (Turn × State) RoundFault
+forked above capacity n f s = granted s (add above capacity (next-line n s) (parting-of (s .table) f) (s .table))
+
+abbrev pub finished : (n budget : ℕ) → Found → State → Result (Turn × State) RoundFault
+finished n b f s = granted s (change (next-line n s) b f (s .table))
 
 -- where no line may be added any more
 abbrev pub no-more : State → Wish → Result (ℕ × State) RoundFault

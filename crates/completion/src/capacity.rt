@@ -4,7 +4,7 @@ ghost use Prim.Native.Nat.{_≤_};
 // From 1 to 128 rules.
 #[derive(Clone, Copy)]
 pub struct Capacity {
-    rules: usize,
+    pub(crate) rules: usize,
     ghost some: { 1 ≤ rules },
     ghost few: { rules ≤ 128 },
 }

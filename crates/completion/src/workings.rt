@@ -18,6 +18,9 @@ pub struct Workings {
     ghost summed: { lengths (vec-items lines) ≡ vec-len chain },
 }
 
+pub mod adding;
+pub mod changing;
 pub mod making;
 pub mod noting;
 pub mod reading;
+pub mod rounds;
