@@ -4,3 +4,4 @@ pub mod Replaying
 pub mod Entering
 pub mod Answering
 pub mod Between
+pub mod Settling

@@ -6,5 +6,6 @@ pub mod reading;
 pub mod register;
 pub mod reopen;
 pub mod replay;
+pub mod settle;
 pub mod standard;
 pub mod verdict;
