@@ -1,6 +1,8 @@
 // A load by its counts, and its total.
 ghost use mathlib.Core.Path.{_≡_};
+ghost use mathlib.Core.Bool.{true};
 ghost use Rattle.loads.specs.Loads.{at, empty, of-counts};
+ghost use Rattle.loads.specs.Tests.{alike, fits};
 ghost use Rattle.loads.specs.Totals.{pieces};
 use crate::Load;
 use crate::presence::presence_of;
@@ -33,14 +35,23 @@ impl Load {
         if place < 8 { self.counts[place] } else { 0 }
     }
 
-    // The total of pieces.
+    // The total of pieces. That it was added up shows that every count fits 16 bits.
     pub fn pieces(&self) -> u32
-        ensures { λ r. ⌜ r ≡ pieces (now (self .entry)) ⌝ }
+        ensures is { λ r. ⌜ r ≡ pieces (now (self .entry)) ⌝ }
+        ensures small { λ _. ⌜ fits (now (self .entry)) ≡ true ⌝ }
     {
         let mut sum = 0;
         for i in 0..8 {
             sum += self.counts[i] as u32;
         }
         sum
+    }
+
+    // Whether the load has no piece.
+    pub fn is_empty(&self) -> bool
+        ensures is { λ r. ⌜ r ≡ alike (now (self .entry)) empty ⌝ }
+        ensures small { λ _. ⌜ fits (now (self .entry)) ≡ true ⌝ }
+    {
+        self.pieces() == 0
     }
 }

@@ -1,2 +1,7 @@
-pub mod Citing
-pub mod Rows
+pub mod Judging
+pub mod Viewing
+pub mod Replaying
+pub mod Entering
+pub mod Answering
+pub mod Between
+pub mod Settling

@@ -1,20 +1,23 @@
 -- What a register of the code holds, as the definitions have it.
 use mathlib.Core.Bool.{Bool, true, false}
-use Rattle.std.specs.Of.Vec.{vec-items}
+use mathlib.Core.List.{List}
 use Rattle.std.specs.declared.option.Option.{Option}
 use Rattle.std.specs.declared.option.Option.the-variants.{Some, None}
-use Rattle.worksheet.specs.Derivations.{derivations}
+use Rattle.worksheet.specs.declared.equation.Equation.{Equation}
+use Rattle.tables.specs.Rows.{equations-of}
+use Rattle.completion.specs.States.{State, held}
 use Rattle.register.specs.declared.register.Register.{Register}
-use Rattle.register.specs.Calls.{Sheet, Contents}
+use Rattle.register.specs.Contents.{Contents}
 
 -- the sheet of a settled register, none of an open one
-abbrev pub sheet-if : Bool → Sheet → Option Sheet
+abbrev pub sheet-if : Bool → State → Option State
 sheet-if true s = Some s
 sheet-if false s = None
 
--- its table and its added lines, each line with its own chain numbers
-abbrev pub sheet-of : Register → Sheet
-sheet-of g = record { table = vec-items (g .rules); added = derivations (vec-items (g .lines)) (vec-items (g .chain)) }
+-- the contents with these rows
+abbrev pub contents-of : List Equation → Bool → State → Contents
+contents-of book settled s = record { book = book; sheet = sheet-if settled s }
 
+-- what the register holds
 abbrev pub view : Register → Contents
-view g = record { book = vec-items (g .equations); sheet = sheet-if (g .settled) (sheet-of g) }
+view g = contents-of (equations-of (g .book)) (g .settled) (held (g .workings))

@@ -2,8 +2,6 @@
 ghost use Rattle.register.specs.Calls.{Enter, Entered, Did, replied};
 ghost use Rattle.register.specs.View.{view};
 use crate::register::Register;
-use loads::Load;
-use loads::equality::LoadPartialEq;
 use refusals::Refusal;
 use worksheet::equation::Equation;
 
@@ -15,13 +13,12 @@ impl Register {
         if self.settled {
             return Err(Refusal::NotOpen);
         }
-        if equation.left == Load::empty() || equation.right == Load::empty() {
+        if equation.left.is_empty() || equation.right.is_empty() {
             return Err(Refusal::EmptySide);
         }
-        if self.equations.len() >= 32 {
-            return Err(Refusal::BookFull);
+        match self.book.enter(equation) {
+            Some(number) => Ok(number),
+            None => Err(Refusal::BookFull),
         }
-        self.equations.push_reserved(equation);
-        Ok(self.equations.len())
     }
 }

@@ -1,11 +1,13 @@
 // Making a register.
 ghost use mathlib.Core.Path.{_≡_};
 ghost use Rattle.std.specs.Vec.{made};
-ghost use Rattle.register.specs.Calls.{new};
+ghost use Rattle.register.specs.Contents.{new};
 ghost use Rattle.register.specs.View.{view};
 use crate::register::Register;
+use completion::workings::Workings;
 use std::alloc::AllocError;
 use std::alloc::Global;
+use tables::book::Book;
 
 impl Register {
     // An open register with an empty book. It reserves all the room that a register can ever need, so no other call wants memory.
@@ -13,10 +15,8 @@ impl Register {
         ensures { λ r. ⌜ made r (λ g. view g ≡ new) ⌝ }
     {
         Ok(Register {
-            equations: Vec::with_capacity(heap, 32)?,
-            rules: Vec::with_capacity(heap, 128)?,
-            lines: Vec::with_capacity(heap, 512)?,
-            chain: Vec::with_capacity(heap, 4096)?,
+            book: Book::new(heap)?,
+            workings: Workings::new(heap)?,
             settled: false,
         })
     }

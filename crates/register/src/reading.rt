@@ -1,24 +1,28 @@
-// Reading the lines of a register.
+// Reading the rules and the lines of a register.
 ghost use mathlib.Core.Path.{_≡_};
-ghost use Prim.Native.Nat.{_+_, _<_, _≤_};
-ghost use lib.ListN.{length, getD, take};
-ghost use Rattle.worksheet.specs.declared.line.Line.{Line};
+ghost use lib.ListN.{length};
 ghost use denote.Ref.{now as behind};
 ghost use Rattle.std.specs.Options.{mapped};
-ghost use Rattle.std.specs.Of.Vec.{vec-items, vec-len};
-ghost use Rattle.worksheet.specs.Derivations.{lengths};
-ghost use Rattle.register.specs.Calls.{lines-of, claim-at, chain-at};
+ghost use Rattle.register.specs.Contents.{rules-in, lines-of, claim-at, chain-at};
 ghost use Rattle.register.specs.View.{view};
 use crate::register::Register;
 use worksheet::equation::Equation;
 use worksheet::replay::claim_at;
+use worksheet::rule::Rule;
 
 impl Register {
+    // The rules, by place; an open register has none.
+    pub fn rules(&self) -> &[Rule]
+        ensures { λ r. ⌜ now r ≡ rules-in (view (now (self .entry)) .sheet) ⌝ }
+    {
+        self.workings.table().rules()
+    }
+
     // How many lines there are: the equations of the book and the added lines.
     pub fn line_count(&self) -> usize
         ensures { λ r. ⌜ r ≡ length (lines-of (view (now (self .entry)))) ⌝ }
     {
-        self.equations.len() + self.lines.len()
+        self.book.equations().len() + self.workings.lines().len()
     }
 
     // What the line with a number, counted from 1, claims.
@@ -28,38 +32,17 @@ impl Register {
         if number == 0 {
             return None;
         }
-        claim_at(&self.equations, &self.lines, number - 1)
-    }
-
-    // Where the chain of the added line at a place, counted from 0, begins in the row of all chain numbers.
-    fn chain_start(&self, place: usize) -> usize
-        requires { ⌜ place ≤ vec-len (now self .lines) ⌝ }
-        ensures is { λ r. ⌜ r ≡ lengths (take place (vec-items (now (self .entry) .lines))) ⌝ }
-        ensures within { λ r. ⌜ ((l : Line) → place < vec-len (now (self .entry) .lines) → l ≡ getD (vec-items (now (self .entry) .lines)) place l → r + l .length ≤ vec-len (now (self .entry) .chain)) ⌝ }
-    {
-        let mut start = 0;
-        for i in 0..place {
-            let line = self.lines[i];
-            start += line.length as usize;
-        }
-        start
+        claim_at(self.book.equations(), self.workings.lines(), number - 1)
     }
 
     // The chain of an added line by its number; an equation has none.
     pub fn chain(&self, number: usize) -> Option<&[i16]>
         ensures { λ r. ⌜ mapped behind r ≡ chain-at (view (now (self .entry))) number ⌝ }
     {
-        let equations = self.equations.len();
+        let equations = self.book.equations().len();
         if number <= equations {
             return None;
         }
-        let place = number - (equations + 1);
-        if place >= self.lines.len() {
-            return None;
-        }
-        let start = self.chain_start(place);
-        let line = self.lines[place];
-        let end = start + line.length as usize;
-        Some(&self.chain[start..end])
+        self.workings.line_chain(number - (equations + 1))
     }
 }

@@ -1,28 +1,25 @@
 // What a register holds.
 ghost use mathlib.Core.Path.{_≡_};
-ghost use mathlib.Core.Bool.{false};
-ghost use mathlib.Core.List.{[]};
-ghost use Prim.Native.Nat.{_≤_};
-ghost use Rattle.std.specs.Of.Vec.{vec-items, vec-len, vec-cap};
-ghost use Rattle.worksheet.specs.Derivations.{lengths};
-use worksheet::equation::Equation;
-use worksheet::line::Line;
-use worksheet::rule::Rule;
+ghost use mathlib.Core.Bool.{true, false};
+ghost use lib.ListN.{length};
+ghost use Rattle.std.specs.shelf.Lists.{All};
+ghost use Rattle.tables.specs.Rows.{equations-of};
+ghost use Rattle.completion.specs.States.{held};
+ghost use Rattle.soundness.specs.Sheets.{Small};
+ghost use Rattle.register.specs.Guarantee.{Guaranteed};
+use completion::workings::Workings;
+use tables::book::Book;
 
-// A book, a table and a worksheet. The room of each row is reserved once, so that no later call wants memory.
+// A book, and when it is settled a table and a worksheet. All room is reserved once, so that no later call wants memory.
 #[derive(Drop)]
 pub struct Register {
-    pub(crate) equations: Vec<Equation>,
-    pub(crate) rules: Vec<Rule>,
-    pub(crate) lines: Vec<Line>,
-    pub(crate) chain: Vec<i16>,
+    pub(crate) book: Book,
+    pub(crate) workings: Workings,
     pub(crate) settled: bool,
-    // room for the most that a register holds
-    ghost room: { (32 ≤ vec-cap equations) × (128 ≤ vec-cap rules) × (512 ≤ vec-cap lines) × (4096 ≤ vec-cap chain) },
-    // and it holds no more
-    ghost held: { (vec-len equations ≤ 32) × (vec-len rules ≤ 128) × (vec-len lines ≤ 512) × (vec-len chain ≤ 4096) },
-    // an open register has no added lines
-    ghost bare: { settled ≡ false → vec-items lines ≡ [] },
-    // every chain number is a line's own
-    ghost whole: { lengths (vec-items lines) ≡ vec-len chain },
+    // an open register has no rules and no added lines
+    ghost bare: { settled ≡ false → (length (held workings .table) ≡ 0) × (length (held workings .added) ≡ 0) },
+    // the counts of the book's loads go up to 65,535
+    ghost small: { ∥ All Small (equations-of book) ∥₁ },
+    // what a settled register guarantees
+    ghost sound: { ∥ (settled ≡ true → Guaranteed (equations-of book) (held workings)) ∥₁ },
 }

@@ -20,7 +20,7 @@ impl Register {
     pub fn replay(&self, load: &Load, chain: &[i16]) -> Result<Outcome, Refusal>
         ensures { λ r. ⌜ Did (view (now (self .entry))) (Replay (now (load .entry)) (now (chain .entry))) (replied (λ x. Replayed (x .end) (x .net)) r) (view (now (self .entry))) ⌝ }
     {
-        let end = replay(&self.equations, &self.lines, chain, load)?;
+        let end = replay(self.book.equations(), self.workings.lines(), chain, load)?;
         Ok(Outcome {
             end,
             net: net(load, &end),

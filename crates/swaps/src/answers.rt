@@ -7,6 +7,9 @@ use refusals::Refusal;
 use refusals::ToldDisplay;
 use register::register::Register;
 use register::replay::Outcome;
+use register::settle::Counts;
+use register::verdict::Verdict;
+use loads::Load;
 use std::fmt;
 use std::fmt::Write;
 use worksheet::equation::Equation;
@@ -53,6 +56,84 @@ pub(crate) fn tell_entered(
         }
         Err(refusal) => tell_refusal(refusal, out),
     }
+}
+
+pub(crate) fn tell_settled(
+    answer: Result<Counts, Refusal>,
+    out: &mut String,
+) -> Result<(), NoMemory> {
+    match answer {
+        Ok(counts) => {
+            let rules = counts.rules;
+            let lines = counts.lines;
+            let steps = counts.steps;
+            write!(out, "settled: {rules} rules, {lines} lines, {steps} steps\n")?;
+            Ok(())
+        }
+        Err(refusal) => tell_refusal(refusal, out),
+    }
+}
+
+pub(crate) fn tell_reopened(answer: Result<(), Refusal>, out: &mut String) -> Result<(), NoMemory> {
+    match answer {
+        Ok(()) => {
+            write!(out, "reopened\n")?;
+            Ok(())
+        }
+        Err(refusal) => tell_refusal(refusal, out),
+    }
+}
+
+pub(crate) fn tell_standard(
+    answer: Result<u32, Refusal>,
+    load: Load,
+    out: &mut String,
+) -> Result<(), NoMemory> {
+    match answer {
+        Ok(steps) => {
+            let standard = Letters(load);
+            write!(out, "standard: {standard}, {steps} steps\n")?;
+            Ok(())
+        }
+        Err(refusal) => tell_refusal(refusal, out),
+    }
+}
+
+pub(crate) fn tell_matched(
+    answer: Result<Verdict, Refusal>,
+    row: &[i16],
+    out: &mut String,
+) -> Result<(), NoMemory> {
+    match answer {
+        Ok(Verdict::Equal(steps)) => {
+            write!(out, "equal: {steps} steps, chain")?;
+            if let Some(chain) = row.get(0..steps as usize) {
+                tell_chain(chain, out)?;
+            }
+            write!(out, "\n")?;
+            Ok(())
+        }
+        Ok(Verdict::Different(steps)) => {
+            write!(out, "different: {steps} steps\n")?;
+            Ok(())
+        }
+        Err(refusal) => tell_refusal(refusal, out),
+    }
+}
+
+pub(crate) fn tell_table(register: &Register, out: &mut String) -> Result<(), NoMemory> {
+    let rules = register.rules();
+    if rules.is_empty() {
+        write!(out, "no rules\n")?;
+    }
+    for (i, rule) in rules.iter().enumerate() {
+        let place = i.saturating_add(1);
+        let left = Letters(rule.left);
+        let right = Letters(rule.right);
+        let line = rule.line;
+        write!(out, "rule {place}: {left} -> {right}, line {line}\n")?;
+    }
+    Ok(())
 }
 
 pub(crate) fn tell_replayed(

@@ -2,7 +2,10 @@
 use crate::memory::NoMemory;
 use crate::memory::NoMemoryFromRefused;
 use crate::notation::read_load;
+use crate::numbers::read_number;
 use crate::numbers::read_signed;
+use crate::ordering::Chosen;
+use crate::ordering::read_order;
 use crate::words::Words;
 use loads::Load;
 use std::alloc::Global;
@@ -13,7 +16,12 @@ use worksheet::equation::Equation;
 pub(crate) enum Command {
     New,
     Enter(Equation),
+    Settle(Chosen, u32, u32),
+    Reopen,
+    Standard(Load, u32),
+    Match(Load, Load, u32, u32),
     Replay(Load, Vec<i16>),
+    Table,
     Lines,
 }
 
@@ -25,6 +33,29 @@ fn read_equation(words: &mut Words) -> Option<Equation> {
     }
     let right = read_load(words.next()?)?;
     Some(Equation { left, right })
+}
+
+// An order, a capacity and a budget.
+fn read_settle(words: &mut Words) -> Option<Command> {
+    let order = read_order(words)?;
+    let capacity = read_number(words.next()?, u32::MAX)?;
+    let budget = read_number(words.next()?, u32::MAX)?;
+    Some(Command::Settle(order, capacity, budget))
+}
+
+// A load and a budget.
+fn read_standard(words: &mut Words) -> Option<Command> {
+    let load = read_load(words.next()?)?;
+    Some(Command::Standard(load, read_number(words.next()?, u32::MAX)?))
+}
+
+// Two loads, the room of the chain, and a budget.
+fn read_match(words: &mut Words) -> Option<Command> {
+    let first = read_load(words.next()?)?;
+    let second = read_load(words.next()?)?;
+    let room = read_number(words.next()?, 1_000_000)?;
+    let budget = read_number(words.next()?, u32::MAX)?;
+    Some(Command::Match(first, second, room, budget))
 }
 
 // The rest of the words as chain numbers.
@@ -69,7 +100,12 @@ pub(crate) fn read_command(line: &[u8], heap: Global) -> Result<Option<Command>,
             Some(equation) => Some(Command::Enter(equation)),
             None => None,
         },
+        b"settle" => read_settle(&mut words),
+        b"reopen" => Some(Command::Reopen),
+        b"standard" => read_standard(&mut words),
+        b"match" => read_match(&mut words),
         b"replay" => read_replay(&mut words, heap)?,
+        b"table" => Some(Command::Table),
         _ => None,
     };
     if words.done() { Ok(command) } else { Ok(None) }

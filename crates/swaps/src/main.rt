@@ -5,6 +5,7 @@ mod input;
 mod memory;
 mod notation;
 mod numbers;
+mod ordering;
 mod session;
 #[cfg(test)]
 mod tests;

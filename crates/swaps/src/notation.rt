@@ -41,6 +41,14 @@ pub impl fmt::Display for Letters as LettersDisplay {
     }
 }
 
+// The place of the article that a letter stands for.
+pub(crate) fn letter_place(byte: u8) -> Option<usize> {
+    if byte < b'a' || byte > b'h' {
+        return None;
+    }
+    Some((byte - b'a') as usize)
+}
+
 // Where the digits from `start` on end.
 fn digits_end(text: &[u8], start: usize) -> usize
     requires { ⌜ start ≤ length (now text) ⌝ }

@@ -6,6 +6,8 @@ use crate::input::LineBuffer;
 use crate::memory::NoMemory;
 use crate::memory::NoMemoryFromAlloc;
 use crate::memory::NoMemoryFromFmt;
+use crate::ordering::settle_by;
+use crate::words::passed_over;
 use register::register::Register;
 use std::alloc::Global;
 use std::fmt::Write;
@@ -42,6 +44,19 @@ impl Session {
                 Ok(())
             }
             Command::Enter(equation) => tell_entered(self.register.enter(equation), equation, out),
+            Command::Settle(order, capacity, budget) => tell_settled(settle_by(&mut self.register, order, capacity, budget), out),
+            Command::Reopen => tell_reopened(self.register.reopen(), out),
+            Command::Standard(load, budget) => {
+                let mut standard = load;
+                let answer = self.register.standard(&mut standard, budget);
+                tell_standard(answer, standard, out)
+            }
+            Command::Match(first, second, room, budget) => {
+                let mut row = vec![in self.heap; 0i16; room as usize]?;
+                let answer = self.register.match_loads(&first, &second, &mut row, budget);
+                tell_matched(answer, &row, out)
+            }
+            Command::Table => tell_table(&self.register, out),
             Command::Replay(load, chain) => tell_replayed(self.register.replay(&load, &chain), out),
             Command::Lines => tell_lines(&self.register, out),
         }
@@ -51,9 +66,12 @@ impl Session {
     fn answer(&mut self, out: &mut String) -> Result<(), NoMemory> {
         let command = match self.input.line() {
             None => None,
-            Some([]) => return Ok(()),
-            Some([b'#', ..]) => return Ok(()),
-            Some(line) => read_command(line, self.heap)?,
+            Some(line) => {
+                if passed_over(line) {
+                    return Ok(());
+                }
+                read_command(line, self.heap)?
+            }
         };
         match command {
             Some(command) => self.perform(command, out),

@@ -60,3 +60,9 @@ impl<'a> Words<'a> {
         self.next().is_none()
     }
 }
+
+// Whether a line asks for nothing: it is blank, or its first byte that is no space is a #.
+pub(crate) fn passed_over(line: &[u8]) -> bool {
+    let start = word_start(line, 0);
+    start == line.len() || line[start] == b'#'
+}

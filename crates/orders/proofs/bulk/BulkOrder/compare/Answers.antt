@@ -12,13 +12,13 @@ pub returns-then-first-second : need.returns-then-first-second
 unfolding bulk
 returns-then-first-second c =
     answer-apart pieces (turned (first-larger (down 8))) (c .args .a .now) (c .args .b .now) (c .cmp .result)
-    (rw (c .pieces-first .ensures, c .pieces-second .ensures) at (c .if-first-second .taken))
-    (rw (c .pieces-first .ensures, c .pieces-second .ensures) at (c .cmp .ensures))
+    (rw (c .pieces-first .ensures .is, c .pieces-second .ensures .is) at (c .if-first-second .taken))
+    (rw (c .pieces-first .ensures .is, c .pieces-second .ensures .is) at (c .cmp .ensures))
 
 pub loop-i-holds : need.loop-i-holds
 unfolding bulk
 loop-i-holds c =
-    sym (answer-level pieces (turned (first-larger (down 8))) (c .args .a .now) (c .args .b .now) (sym (c .pieces-first .ensures) ∙ c .if-first-second .left ∙ c .pieces-second .ensures))
+    sym (answer-level pieces (turned (first-larger (down 8))) (c .args .a .now) (c .args .b .now) (sym (c .pieces-first .ensures .is) ∙ c .if-first-second .left ∙ c .pieces-second .ensures .is))
 
 pub loop-i-again : need.loop-i-again
 loop-i-again c =

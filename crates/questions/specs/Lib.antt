@@ -1,0 +1,4 @@
+pub mod Placed
+pub mod Topics
+pub mod Questions
+pub mod Asking

@@ -1,0 +1,11 @@
+pub mod Answering
+pub mod Following
+pub mod Reducing
+pub mod Undoing
+pub mod Lines
+pub mod Ordering
+pub mod Asking
+pub mod Bridging
+pub mod Keeping
+pub mod Ending
+pub mod Meaning

@@ -1,0 +1,2 @@
+// Why the rounds are right.
+pub mod theorems;

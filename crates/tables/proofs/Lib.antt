@@ -1,0 +1,5 @@
+pub mod Citing
+pub mod Places
+pub mod Signs
+pub mod Strides
+pub mod Writing

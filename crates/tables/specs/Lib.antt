@@ -1,0 +1,4 @@
+pub mod Citing
+pub mod Rows
+pub mod Placing
+pub mod Trails
