@@ -36,8 +36,8 @@ module _ (x out into : Load) where
       ap Ok (same-eight (λ k l. omega (counts, is k l)))
       ∙ sym (exchanged-made e (fits-eight (swapped x out into) .1 (λ k l. omega (counts, small k l))))
 
-  pub exchanged-high : contains x out ≡ true → (k : ℕ) → k < 8 → 65535 < new x out into k → Err Overflow ≡ exchanged x out into
-  exchanged-high e k l h = sym (exchanged-over e (decides-false (fits (swapped x out into)) (fits-eight (swapped x out into)) (λ small. omega (counts, small k l))))
+  pub exchanged-high : contains x out ≡ true → ¬ ((k : ℕ) → k < 8 → new x out into k ≤ 65535) → Err Overflow ≡ exchanged x out into
+  exchanged-high e high = sym (exchanged-over e (decides-false (fits (swapped x out into)) (fits-eight (swapped x out into)) (λ small. high (λ k l. omega (counts, small k l)))))
 
   -- what an exchange that is made gives
   pub exchanged-is : (y : Load) → exchanged x out into ≡ Ok y → y ≡ swapped x out into

@@ -12,20 +12,25 @@ pub enum ExchangeFault {
 }
 
 impl Load {
-    // This load less `out`, with `into` added. Each new count is worked out in 32 bits.
+    // This load less `out`, with `into` added. Each new count is worked out in 32 bits. All eight are worked out before any is judged, so that the
+    // machine can take them at once: `lack` and `high` gather what is lacking and the new counts, bit by bit.
     pub fn exchange(&self, out: &Load, into: &Load) -> Result<Load, ExchangeFault>
         ensures { λ r. ⌜ r ≡ exchanged (now (self .entry)) (now (out .entry)) (now (into .entry)) ⌝ }
     {
-        if !self.contains(out) {
+        let mut counts = [0; 8];
+        let mut lack = 0;
+        let mut high = 0;
+        for i in 0..8 {
+            lack |= out.counts[i].saturating_sub(self.counts[i]);
+            let new = self.counts[i].saturating_sub(out.counts[i]) as u32 + into.counts[i] as u32;
+            high |= new;
+            counts[i] = (new & 0xffff) as u16;
+        }
+        if lack != 0 {
             return Err(ExchangeFault::Lacks);
         }
-        let mut counts = [0; 8];
-        for i in 0..8 {
-            let new = self.counts[i] as u32 - out.counts[i] as u32 + into.counts[i] as u32;
-            if new > 65535 {
-                return Err(ExchangeFault::Overflow);
-            }
-            counts[i] = new as u16;
+        if high > 65535 {
+            return Err(ExchangeFault::Overflow);
         }
         Ok(Load::of(counts))
     }

@@ -107,14 +107,39 @@ impl Refusal {
             Refusal::EmptySide => plain(3, Part::Enter, 0),
             Refusal::BookFull => plain(4, Part::Enter, 0),
             Refusal::Capacity => plain(5, Part::Settle, 0),
-            Refusal::Step(Placed { fault: StepFault::Spent, place }) => plain(6, Part::Step, place as usize),
-            Refusal::Step(Placed { fault: StepFault::Overflow, place }) => plain(7, Part::Step, place as usize),
+            Refusal::Step(
+                Placed {
+                    fault: StepFault::Spent,
+                    place,
+                },
+            ) => plain(6, Part::Step, place as usize),
+            Refusal::Step(
+                Placed {
+                    fault: StepFault::Overflow,
+                    place,
+                },
+            ) => plain(7, Part::Step, place as usize),
             Refusal::Full(place) => plain(8, Part::Adding, place as usize),
             Refusal::NoRoom(place) => plain(9, Part::Adding, place as usize),
             Refusal::ShortChain => plain(10, Part::Match, 0),
-            Refusal::Replay(ReplayFault { step, fault: SwapFault::NoLine }) => plain(11, Part::Replay, step),
-            Refusal::Replay(ReplayFault { step, fault: SwapFault::Lacks }) => plain(12, Part::Replay, step),
-            Refusal::Replay(ReplayFault { step, fault: SwapFault::Overflow }) => plain(7, Part::Step, step),
+            Refusal::Replay(
+                ReplayFault {
+                    step,
+                    fault: SwapFault::NoLine,
+                },
+            ) => plain(11, Part::Replay, step),
+            Refusal::Replay(
+                ReplayFault {
+                    step,
+                    fault: SwapFault::Lacks,
+                },
+            ) => plain(12, Part::Replay, step),
+            Refusal::Replay(
+                ReplayFault {
+                    step,
+                    fault: SwapFault::Overflow,
+                },
+            ) => plain(7, Part::Step, step),
         }
     }
 }

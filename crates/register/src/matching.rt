@@ -58,7 +58,13 @@ impl Register {
         if steps as usize > chain.len() {
             return Err(Refusal::ShortChain);
         }
-        write_between(table, first, second, one.steps as usize, &mut chain[0..steps as usize]);
+        write_between(
+            table,
+            first,
+            second,
+            one.steps as usize,
+            &mut chain[0..steps as usize],
+        );
         Ok(Verdict::Equal(steps))
     }
 }

@@ -17,7 +17,12 @@ pub struct Counts {
 
 impl Register {
     // Settles an open register under an order. Refused, the register stays open as it was.
-    pub fn settle<O: Order>(&mut self, order: &O, capacity: u32, budget: u32) -> Result<Counts, Refusal>
+    pub fn settle<O: Order>(
+        &mut self,
+        order: &O,
+        capacity: u32,
+        budget: u32,
+    ) -> Result<Counts, Refusal>
         ensures { λ r. ⌜ Did (view (now (self .entry))) (Settle (above (now (order .entry))) capacity budget) (replied (λ n. Counted (n .rules) (n .lines) (n .steps)) r) (view (now (self .exit))) ⌝ }
     {
         if self.settled {

@@ -57,7 +57,7 @@ module _ (ls : List Equation) (small : All Small ls) where
       let up : Applies (turned (equation-of r)) (reduct (equation-of r) (equation-of s)) top = record { fits = λ k. omega counts; gives = same (λ k. omega counts) } in
       let down : Applies (equation-of s) top (reduct (equation-of s) (equation-of r)) = record { fits = λ k. omega counts; gives = same (λ k. omega counts) } in
       let over : Follows ls _ (reduct (equation-of r) (equation-of s)) (reduct (equation-of s) (equation-of r)) =
-          pass (named-back ls (pos (r .line)) (equation-of r) c) up (peak-fits (r .left) (s .left) (claim-small r c .0) (claim-small s d .0)) (pass d down (y .0) stay) in
+      pass (named-back ls (pos (r .line)) (equation-of r) c) up (peak-fits (r .left) (s .left) (claim-small r c .0) (claim-small s d .0)) (pass d down (y .0) stay) in
       subst (Bridged ls) (ok-same (h .then)) (record {
         small-first = subst (λ (z : Load). fits z ≡ true) (x .1) (x .0);
         small-second = subst (λ (z : Load). fits z ≡ true) (y .1) (y .0);

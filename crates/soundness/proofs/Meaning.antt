@@ -78,7 +78,7 @@ with-meets t i r j (u ∷ rest) h b l s = go (shares (r .left) (u .left)) refl h
   where
     go : (d : Bool) → shares (r .left) (u .left) ≡ d → All (Meeting t) (elim d [ true ↦ peak i r j u ∷ peaks-with i r (j + 1) rest | false ↦ peaks-with i r (j + 1) rest ])
         → (All (Meeting t) (peaks-with i r (j + 1) rest) → (b : ℕ) → b < length (equations rest) → Share (r .left) (place (equations rest) b .left)
-          → Meet (equations t) (reduct (equation-of r) (place (equations rest) b)) (reduct (place (equations rest) b) (equation-of r)))
+        → Meet (equations t) (reduct (equation-of r) (place (equations rest) b)) (reduct (place (equations rest) b) (equation-of r)))
         → (b : ℕ) → b < length (equations (u ∷ rest)) → Share (r .left) (place (equations (u ∷ rest)) b .left)
         → Meet (equations t) (reduct (equation-of r) (place (equations (u ∷ rest)) b)) (reduct (place (equations (u ∷ rest)) b) (equation-of r))
     go true e h ih zero l s = h .0

@@ -3,13 +3,13 @@ use crate::memory::NoMemory;
 use crate::memory::NoMemoryFromFmt;
 use crate::notation::Letters;
 use crate::notation::LettersDisplay;
+use loads::Load;
 use refusals::Refusal;
 use refusals::ToldDisplay;
 use register::register::Register;
 use register::replay::Outcome;
 use register::settle::Counts;
 use register::verdict::Verdict;
-use loads::Load;
 use std::fmt;
 use std::fmt::Write;
 use worksheet::equation::Equation;
@@ -67,7 +67,10 @@ pub(crate) fn tell_settled(
             let rules = counts.rules;
             let lines = counts.lines;
             let steps = counts.steps;
-            write!(out, "settled: {rules} rules, {lines} lines, {steps} steps\n")?;
+            write!(
+                out,
+                "settled: {rules} rules, {lines} lines, {steps} steps\n"
+            )?;
             Ok(())
         }
         Err(refusal) => tell_refusal(refusal, out),

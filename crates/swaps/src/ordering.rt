@@ -116,19 +116,35 @@ fn settle_split(
 ) -> Result<Counts, Refusal> {
     match (first, second) {
         (Base::Listed, Base::Listed) => {
-            let order = Split { marks, first: Listed, second: Listed };
+            let order = Split {
+                marks,
+                first: Listed,
+                second: Listed,
+            };
             register.settle(&order, capacity, budget)
         }
         (Base::Listed, Base::Bulk) => {
-            let order = Split { marks, first: Listed, second: Bulk };
+            let order = Split {
+                marks,
+                first: Listed,
+                second: Bulk,
+            };
             register.settle(&order, capacity, budget)
         }
         (Base::Bulk, Base::Listed) => {
-            let order = Split { marks, first: Bulk, second: Listed };
+            let order = Split {
+                marks,
+                first: Bulk,
+                second: Listed,
+            };
             register.settle(&order, capacity, budget)
         }
         (Base::Bulk, Base::Bulk) => {
-            let order = Split { marks, first: Bulk, second: Bulk };
+            let order = Split {
+                marks,
+                first: Bulk,
+                second: Bulk,
+            };
             register.settle(&order, capacity, budget)
         }
     }
@@ -146,8 +162,23 @@ pub(crate) fn settle_by(
         Chosen::Bulk => register.settle(&Bulk, capacity, budget),
         Chosen::Report => register.settle(&report(), capacity, budget),
         Chosen::House => register.settle(&house(), capacity, budget),
-        Chosen::Weights(row, Base::Listed) => register.settle(&Weights { row, below: Listed }, capacity, budget),
-        Chosen::Weights(row, Base::Bulk) => register.settle(&Weights { row, below: Bulk }, capacity, budget),
-        Chosen::Split(marks, first, second) => settle_split(register, marks, first, second, capacity, budget),
+        Chosen::Weights(row, Base::Listed) => register.settle(
+            &Weights { row, below: Listed },
+            capacity,
+            budget,
+        ),
+        Chosen::Weights(row, Base::Bulk) => register.settle(
+            &Weights { row, below: Bulk },
+            capacity,
+            budget,
+        ),
+        Chosen::Split(marks, first, second) => settle_split(
+            register,
+            marks,
+            first,
+            second,
+            capacity,
+            budget,
+        ),
     }
 }

@@ -44,7 +44,10 @@ impl Session {
                 Ok(())
             }
             Command::Enter(equation) => tell_entered(self.register.enter(equation), equation, out),
-            Command::Settle(order, capacity, budget) => tell_settled(settle_by(&mut self.register, order, capacity, budget), out),
+            Command::Settle(order, capacity, budget) => tell_settled(
+                settle_by(&mut self.register, order, capacity, budget),
+                out,
+            ),
             Command::Reopen => tell_reopened(self.register.reopen(), out),
             Command::Standard(load, budget) => {
                 let mut standard = load;
