@@ -8,7 +8,7 @@ use lib.Dec.{ltb, leb}
 use lib.ListN.{length}
 use Rattle.std.specs.declared.result.Result.{Result}
 use Rattle.std.specs.declared.result.Result.the-variants.{Ok, Err}
-use Rattle.std.proofs.shelf.Tests.{lt-ltb, le-ltb, le-leb, and-from, cond-true}
+use Rattle.std.proofs.shelf.Tests.{lt-ltb, le-ltb, le-leb, and-from, cond-true, cond-both}
 use Rattle.loads.specs.Answers.{_>>=_, check}
 use Rattle.orders.specs.Laws.{Relation}
 use Rattle.worksheet.specs.declared.rule.Rule.{Rule}
@@ -28,31 +28,22 @@ use Rattle.completion.specs.States.{State}
 use Rattle.completion.specs.Adding.{derived, oriented-fork, rule-of, admit}
 use Rattle.completion.specs.Rounds.{a-line, granted, forked, next-line}
 
--- what a fork shows it shows with its loads changed over
+-- a bridge can be cited from its other end too
 turned-cited : (b : Bridge) → Cited b → Cited (turned-bridge b)
 turned-cited (Forward k) h = h
 turned-cited (Backward k) h = h
 turned-cited (Peak i j) h = (h .1, h .0)
 
-turned-counted : (t : List Rule) (f : Fork) → fork-of (parting-of t f) ≡ f → fork-of (parting-of t (turned-fork f)) ≡ turned-fork f
-turned-counted t f e = ap turned-fork e
-
-module _ (above : Relation) (t : List Rule) (f : Fork) where
-  pub oriented-counted : fork-of (parting-of t f) ≡ f → fork-of (parting-of t (oriented-fork above f)) ≡ oriented-fork above f
-  oriented-counted e = go (above (f .first .end) (f .second .end))
-    where
-      go : (b : Bool) → fork-of (parting-of t (cond b f (turned-fork f))) ≡ cond b f (turned-fork f)
-      go true = e
-      go false = turned-counted t f e
-
-  pub oriented-cited : Cited (f .question .bridge) → Cited (oriented-fork above f .question .bridge)
-  oriented-cited h = go (above (f .first .end) (f .second .end))
-    where
-      go : (b : Bool) → Cited (cond b f (turned-fork f) .question .bridge)
-      go true = h
-      go false = turned-cited (f .question .bridge) h
-
 -- g is the fork with the higher end first
+module _ (above : Relation) (t : List Rule) (f g : Fork) (is : g ≡ oriented-fork above f) where
+  pub oriented-counted : fork-of (parting-of t f) ≡ f → fork-of (parting-of t g) ≡ g
+  oriented-counted e = subst (λ (x : Fork). fork-of (parting-of t x) ≡ x) (sym is) (cond-both (above (f .first .end) (f .second .end)) f (turned-fork f) (λ (x : Fork). fork-of (parting-of t x) ≡ x) (λ _. e) (λ _. ap turned-fork e))
+
+  pub oriented-cited : Cited (f .question .bridge) → Cited (g .question .bridge)
+  oriented-cited h =
+      subst (λ (x : Fork). Cited (x .question .bridge)) (sym is)
+      (cond-both (above (f .first .end) (f .second .end)) f (turned-fork f) (λ (x : Fork). Cited (x .question .bridge)) (λ _. h) (λ _. turned-cited (f .question .bridge) h))
+
 module _ (above : Relation) (capacity n : ℕ) (f g : Fork) (s : State) (is : g ≡ oriented-fork above f) where
   -- what comes of a parting whose higher end is first
   abbrev by : (place left : ℕ) → Parting → Result (Turn × State) RoundFault

@@ -44,7 +44,8 @@ impl Workings {
     {
         let fork = oriented(order, fork);
         let left = fork.first.end;
-        if self.table.kept(&left) >= capacity.rules {
+        let kept = self.table.kept(&left);
+        if kept >= capacity.rules {
             return Err(RoundFault::Full(fork.question.place));
         }
         if !self.has_room(chain_length(&fork)) {
