@@ -1,0 +1,16 @@
+pub mod Bytes
+pub mod Faults
+pub mod StoredLoads
+pub mod Sections
+pub mod Sides
+pub mod Equations
+pub mod Rules
+pub mod Lines
+pub mod ChainNumbers
+pub mod Content
+pub mod Encoding
+pub mod Layout
+pub mod WellFormed
+pub mod Decoding
+pub mod Theorems
+pub mod Worked
