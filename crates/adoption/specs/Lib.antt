@@ -1,0 +1,4 @@
+pub mod Worksheets
+pub mod Tables
+pub mod Adopting
+pub mod Theorems
