@@ -13,7 +13,7 @@ use Rattle.swapfile.specs.Decoding.{Counted}
 use Rattle.swapfile.specs.Layout.{layout}
 use Rattle.swapfile.specs.Theorems.{Tells}
 use Rattle.swapfile.specs.WellFormed.{counts-kept, offsets-rise, records-fill, zeros-absent, well-formed}
-use Rattle.swapfile.proofs.FileTrip.{accepted, refused, counted}
+use Rattle.swapfile.proofs.NoOther.{accepted, refused, counted}
 use Rattle.swapfile.proofs.SectionTrip.{after}
 use Rattle.filereader.specs.declared.reader.Reader.{Reader}
 use Rattle.filereader.specs.Readers.{shown-by, opened, laid-out}

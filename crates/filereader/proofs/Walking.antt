@@ -35,6 +35,7 @@ module _ (size : List ℕ → ℕ → ℕ) (b : List ℕ) where
       let less : suc (n - 1) - 1 ≡ n - 1 = omega arith in
       rw (e, le-leb _ _ h, less) refl
 
+  -- one or the other
   one-or-none : (n at : ℕ) → (places-from size b n at ≡ []) ⊎ ((0 < n) × (at + size b at ≤ length b))
   one-or-none n at = elim (cases-lt 0 n) [
     | inl some ↦ elim (cases-lt (length b) (at + size b at)) [ inl h ↦ inl (none-held n at h) | inr h ↦ inr (some, h) ]

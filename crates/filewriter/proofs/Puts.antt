@@ -52,6 +52,7 @@ put-rest out out′ place next all xs ys e wrote after = (λ i. put (wrote i) (a
 pub row-rest : {W : Type 0} (bytes : W → List ℕ) (row : List W) (i : ℕ) (x : W) → i < length row → x ≡ getD row i x → joined bytes (drop i row) ≡ bytes x ++ joined bytes (drop (i + 1) row)
 row-rest bytes row i x within is = ap (joined bytes) (drop-more row i x within) ∙ ap (λ y. bytes y ++ joined bytes (drop (i + 1) row)) (sym is)
 
+-- none is left
 pub row-none : {W : Type 0} (bytes : W → List ℕ) (row : List W) (i : ℕ) → length row ≤ i → joined bytes (drop i row) ≡ []
 row-none bytes row i h = ap (joined bytes) (drop-all i row h)
 
@@ -60,6 +61,7 @@ pub counts-rest : (cs : List ℕ) (i : ℕ) → i < length cs → counts-bytes (
 unfolding counts-bytes
 counts-rest cs i h = ap counts-bytes (drop-more cs i 0 h)
 
+-- none is left
 pub counts-none : (cs : List ℕ) (i : ℕ) → length cs ≤ i → counts-bytes (drop i cs) ≡ []
 unfolding counts-bytes
 counts-none cs i h = ap counts-bytes (drop-all i cs h)

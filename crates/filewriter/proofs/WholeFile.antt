@@ -12,7 +12,7 @@ use Rattle.swapfile.specs.Bytes.{number-bytes}
 use Rattle.swapfile.specs.Content.{Content, few, Within}
 use Rattle.swapfile.specs.Decoding.{decode}
 use Rattle.swapfile.specs.Encoding.{equations-bytes, rules-bytes, lines-bytes, chain-bytes, rules-offset, lines-offset, chain-offset, counts, offsets, encode}
-use Rattle.swapfile.proofs.FileTrip.{reads-back}
+use Rattle.swapfile.proofs.ReadsBack.{reads-back}
 use Rattle.filewriter.specs.declared.fault.WriteFault.the-variants.{ShortBuffer}
 use Rattle.filewriter.specs.Putting.{put}
 use Rattle.filewriter.specs.Writing.{written}

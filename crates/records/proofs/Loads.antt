@@ -30,6 +30,7 @@ counts-more b cs i p at c next all h long is goes e =
     ∙ ap (λ k. take i cs ++ counts-at b k p at) (sym left)
     ∙ e
 
+-- and in the end those that were read
 pub counts-end : (b cs : List ℕ) (i p at : ℕ) (all : List ℕ) → 8 ≤ i → length cs ≡ 8 → take i cs ++ counts-at b (8 - i) p at ≡ all → cs ≡ all
 unfolding counts-at
 counts-end b cs i p at all h long e =

@@ -2,6 +2,9 @@ pub mod Standing
 pub mod LoadTrip
 pub mod SectionTrip
 pub mod RecordTrips
-pub mod FileTrip
+pub mod Laying
+pub mod Limits
+pub mod ReadsBack
+pub mod NoOther
 pub mod Narrow
 pub mod WorkedFile

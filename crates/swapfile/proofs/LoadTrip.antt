@@ -20,10 +20,12 @@ use Rattle.swapfile.specs.Bytes.{Bytes, number-at, number-bytes}
 use Rattle.swapfile.specs.StoredLoads.{count-bytes, counts-bytes, load-bytes, load-size, if-set, counts-at, load-at, or-here, zero-from, load-zero}
 use Rattle.swapfile.proofs.Standing.{Stands, moved, parts, joins, number-back, number-forth, number-below}
 
+-- a count that is there takes two bytes
 count-long : (c : ℕ) → length (count-bytes c) ≡ 2 * bit c
 count-long zero = refl
 count-long (suc c) = refl
 
+-- one bit more that is set or not
 ones-bit : (c q : ℕ) → ones (bit c + 2 * q) ≡ bit c + ones q
 ones-bit c q =
     let low : (bit c + 2 * q) % 2 ≡ bit c = omega (arith, bit-le c) in
@@ -36,6 +38,7 @@ unfolding counts-bytes ones
 counts-long [] = refl
 counts-long (c ∷ cs) = omega (arith, length-append (count-bytes c) (counts-bytes cs), count-long c, counts-long cs, ones-bit c (bits cs))
 
+-- a count that stands at a byte is read
 if-set-back : (b : List ℕ) (at c : ℕ) → Stands b at (count-bytes c) → if-set (bit c) (number-at b at) ≡ c
 if-set-back b at zero s = refl
 if-set-back b at (suc c) s = number-back b at (suc c) s
@@ -62,6 +65,7 @@ none-back b (suc c ∷ cs) at s =
     let e : ones (1 + 2 * bits cs) ≡ suc (ones (bits cs)) = ones-bit 1 (bits cs) ∙ omega arith in
     rw (e, n) (none-back b cs (at + 2) (two .1))
 
+-- a load is made of its counts
 own : (x : Load) → of-counts (x .counts) ≡ x
 own x = same (at-of-counts (x .counts) (long x))
 
@@ -71,6 +75,7 @@ pub record Load-back (b : List ℕ) (at : ℕ) (x : Load) : Type 0 where
   pub size : load-size b at ≡ length (load-bytes x)
   pub none : load-zero b at ≡ None
 
+-- the load, its size, and that no count of it is 0
 pub load-back : (b : List ℕ) (at : ℕ) (x : Load) → Stands b at (load-bytes x) → Load-back b at x
 unfolding load-at
 load-back b at x s =
@@ -81,6 +86,7 @@ load-back b at x s =
       none = rw (s .0) (none-back b (x .counts) (at + 1) (s .1));
     }
 
+-- where no 0 is found, there is none here and none behind
 or-none : (n at : ℕ) (rest : Option ℕ) → or-here n at rest ≡ None → (rest ≡ None) × (n ≡ 0 → ⊥)
 or-none zero at rest e = let z : _≡_ {A = ℕ} 0 1 = cc in absurd (omega arith)
 or-none (suc n) at rest e = (e, λ z. omega arith)
@@ -101,6 +107,7 @@ record Counts-forth (b : List ℕ) (p at : ℕ) (cs : List ℕ) : Type 0 where
   told : bits cs ≡ p
   small : (k : ℕ) → getD cs k 0 ≤ 65535
 
+-- one count more that is there
 one-more : (b : List ℕ) (p at n : ℕ) (rest : List ℕ) → Bytes b → p % 2 ≡ 1 → number-at b at ≡ n → (n ≡ 0 → ⊥) → Counts-forth b (p / 2) (at + 2) rest → Counts-forth b p at (n ∷ rest)
 unfolding counts-bytes
 one-more b p at zero rest h e is nz t = absurd (nz refl)
@@ -115,6 +122,7 @@ one-more b p at (suc n) rest h e is nz t =
     small zero = omega (arith, number-below b at h)
     small (suc k) = t .small k
 
+-- one count more, there or not
 more : (b : List ℕ) (p at r : ℕ) (rest : List ℕ) → Bytes b → p % 2 ≡ r → (r ≡ 1 → number-at b at ≡ 0 → ⊥) → Counts-forth b (p / 2) (at + 2 * r) rest → Counts-forth b p at (if-set r (number-at b at) ∷ rest)
 unfolding counts-bytes
 more b p at zero rest h e nz t =
@@ -144,6 +152,7 @@ pub record Load-forth (b : List ℕ) (at : ℕ) (x : Load) : Type 0 where
   pub size : length (load-bytes x) ≡ load-size b at
   pub fit : fits x ≡ true
 
+-- with counts that fit
 pub load-forth : (b : List ℕ) (at : ℕ) → Bytes b → load-zero b at ≡ None → Load-forth b at (load-at b at)
 unfolding load-at counts-at
 load-forth b at h none =

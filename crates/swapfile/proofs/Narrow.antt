@@ -34,7 +34,7 @@ use Rattle.swapfile.specs.Content.{Content, Within}
 use Rattle.swapfile.specs.Encoding.{equations-bytes, rules-bytes, lines-bytes, chain-bytes, chain-offset, counts, offsets, encode}
 use Rattle.swapfile.specs.Theorems.{Writes-bytes}
 use Rattle.swapfile.proofs.LoadTrip.{counts-long}
-use Rattle.swapfile.proofs.FileTrip.{limits-of}
+use Rattle.swapfile.proofs.Limits.{limits-of}
 
 -- a presence byte is a byte
 presence-below : (x : Load) → presence x < 256
@@ -44,21 +44,23 @@ presence-below x = omega (arith, bits-more (x .counts) 0 (omega (arith, long x))
 pub load-short : (x : Load) → length (load-bytes x) ≤ 17
 load-short x = omega (arith, counts-long (x .counts), ones-le 8 (presence x) (presence-below x))
 
--- two loads and a number at most 36
+-- an equation at most 34
 pub equation-short : (e : Equation) → length (equation-bytes e) ≤ 34
 equation-short e = omega (arith, length-append (load-bytes (e .left)) (load-bytes (e .right)), load-short (e .left), load-short (e .right))
 
+-- a rule and a line at most 36
 pub rule-short : (r : Rule) → length (rule-bytes r) ≤ 36
 rule-short r = omega (arith, length-append (sides-bytes (r .left) (r .right)) (number-bytes (r .line)), equation-short (record { left = r .left; right = r .right }))
 
 pub line-short : (l : Line) → length (line-bytes l) ≤ 36
 line-short l = omega (arith, length-append (equation-bytes (l .claim)) (number-bytes (l .length)), equation-short (l .claim))
 
--- so do sections
+-- a section as many times as it has records
 pub joined-short : {X : Type 0} (write : X → List ℕ) (most : ℕ) → ((x : X) → length (write x) ≤ most) → (xs : List X) → length (joined write xs) ≤ length xs * most
 joined-short write most h [] = omega arith
 joined-short write most h (x ∷ xs) = omega (arith, length-append (write x) (joined write xs), h x, joined-short write most h xs)
 
+-- rows of bytes: the empty one, two together, and each thing that is written
 none-narrow : Bytes []
 none-narrow i = omega arith
 
@@ -78,6 +80,7 @@ counts-narrow [] f = none-narrow
 counts-narrow (zero ∷ cs) f = counts-narrow cs (λ k. f (suc k))
 counts-narrow (suc c ∷ cs) f = append-narrow (number-bytes (suc c)) (counts-bytes cs) (number-narrow (suc c) (omega (arith, f 0))) (counts-narrow cs (λ k. f (suc k)))
 
+-- a load that fits has counts up to 65,535
 small : (x : Load) → fits x ≡ true → (k : ℕ) → at x k ≤ 65535
 small x f k = elim (cases-lt k 8) [ inl l ↦ fits-eight x .0 f k l | inr l ↦ omega (arith, past x k l) ]
 
@@ -116,6 +119,7 @@ offsets-small m w =
     let l = limits-of m (w .limits) in
     omega (arith, joined-short equation-bytes 34 equation-short (m .equations), joined-short rule-bytes 36 rule-short (m .rules), joined-short line-bytes 36 line-short (m .lines))
 
+-- so the whole file is
 pub writes-bytes : Writes-bytes
 unfolding encode
 writes-bytes m w =

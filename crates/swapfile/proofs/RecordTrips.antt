@@ -28,6 +28,7 @@ pub both-none : {X : Type 0} (x y : Option X) → first x y ≡ None → (x ≡ 
 both-none None y e = (refl, e)
 both-none (Some x) y e = let z : _≡_ {A = ℕ} 0 1 = cc in absurd (omega arith)
 
+-- equations
 pub equation-trip : Trip equation-size sides-zero equation-at equation-bytes (λ e. equation-fits e ≡ true)
 equation-trip = record {
   back = λ b at x f s.
@@ -62,6 +63,7 @@ behind-forth b at xs h s e =
     let n = number-bytes (number-at b (at + sides-size b at)) in
     joins b xs n at s (moved b n (at + sides-size b at) (at + length xs) (omega (arith, e)) (number-forth b (at + sides-size b at) h))
 
+-- lines
 pub line-trip : Trip line-size sides-zero line-at line-bytes (λ l. line-fits l ≡ true)
 line-trip = record {
   back = λ b at x f s.
@@ -83,6 +85,7 @@ line-trip = record {
       };
 }
 
+-- rules
 pub rule-trip : Trip rule-size sides-zero rule-at rule-bytes (λ r. rule-fits r ≡ true)
 rule-trip = record {
   back = λ b at x f s.
@@ -104,6 +107,7 @@ rule-trip = record {
       };
 }
 
+-- chain numbers, in two's complement
 pub chain-number-trip : Trip chain-number-size chain-number-zero chain-number-at chain-number-bytes Chain-number-fits
 chain-number-trip = record {
   back = λ b at z f s. record { is = rw (number-back b at (ofZ w16 z) s) (toZ-ofZ w16 z f); long = refl; none = refl };

@@ -72,8 +72,10 @@ whole b xs s e = ext-getD 0 b xs e (λ i h. rw zero-add at (read b xs 0 i s (ome
 pub number-back : (b : List ℕ) (at n : ℕ) → Stands b at (number-bytes n) → number-at b at ≡ n
 number-back b at n s = omega arith
 
+-- the number that is read stands there
 pub number-forth : (b : List ℕ) (at : ℕ) → Bytes b → Stands b at (number-bytes (number-at b at))
 number-forth b at h = let p = h at in let q = h (at + 1) in (omega arith, (omega arith, tt))
 
+-- and has two bytes
 pub number-below : (b : List ℕ) (at : ℕ) → Bytes b → number-at b at ≤ 65535
 number-below b at h = let p = h at in let q = h (at + 1) in omega arith

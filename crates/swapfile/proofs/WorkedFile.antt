@@ -9,10 +9,12 @@ use Rattle.swapfile.specs.WellFormed.{well-formed}
 use Rattle.swapfile.specs.Decoding.{decode}
 use Rattle.swapfile.specs.Worked.{worked, worked-bytes}
 
+-- what is written for it
 pub written : encode worked ≡ worked-bytes
 unfolding encode counts-bytes
 written = refl
 
+-- what is read as it
 pub read : decode worked-bytes ≡ Ok worked
 unfolding well-formed places-from filled-from zero-free-in load-at counts-at zero-from ones
 read = refl

@@ -4,7 +4,7 @@ use native.Mathlib.Omega.{arith}
 use lib.ListN.{length}
 use Rattle.swapfile.specs.Content.{content-of}
 use Rattle.swapfile.specs.Encoding.{encode}
-use Rattle.swapfile.proofs.FileTrip.{encode-long}
+use Rattle.swapfile.proofs.Laying.{encode-long}
 use Rattle.filewriter.proofs.WholeFile.{few-from, too-short, has-room, holds-file, reads-as, whole-file}
 use Rattle.filewriter.proofs.file.write_file.Needs as need
 

@@ -1,4 +1,5 @@
-use Rattle.swapfile.proofs.FileTrip.{reads-back, no-other}
+use Rattle.swapfile.proofs.ReadsBack.{reads-back}
+use Rattle.swapfile.proofs.NoOther.{no-other}
 use Rattle.swapfile.proofs.Narrow.{writes-bytes}
 use Rattle.swapfile.proofs.WorkedFile.{written, read}
 use Rattle.swapfile.proofs.theorems.round_trip.Needs as need
