@@ -3,19 +3,13 @@ ghost use mathlib.Core.Path.{_≡_};
 ghost use Rattle.adoption.specs.declared.fault.TableFault.the-variants.{Step};
 ghost use Rattle.adoption.specs.declared.fault.AdoptFault.the-variants as adopt;
 use questions::placed::Placed;
-use questions::placed::PlacedDebug;
-use questions::placed::PlacedPartialEq;
 use rewriting::reduce::StepFault;
-use rewriting::reduce::StepFaultDebug;
-use rewriting::reduce::StepFaultPartialEq;
 use worksheet::fault::ReplayFault;
-use worksheet::fault::ReplayFaultDebug;
-use worksheet::fault::ReplayFaultPartialEq;
 
 // What is wrong with the file's equations and lines. An equation that is not the register's own, by its number, or 0 where the counts differ; the
 // line at which the chain lengths pass the chain numbers, or 0 where they do not reach them; a line whose chain cannot be followed; a line whose
 // chain ends elsewhere than it claims. Lines are counted from 1, the equations first.
-#[derive(Clone, Copy, PartialEq, Eq, Debug)]
+#[derive(Clone, Copy)]
 pub enum WorksheetFault {
     Differs(usize),
     Uneven(usize),
@@ -25,7 +19,7 @@ pub enum WorksheetFault {
 
 // What is wrong with the file's table. A rule that its line does not claim, one that does not fall, or one that is not reduced, by its place; a
 // question that ends in two loads, or in which a step is not made, by its place.
-#[derive(Clone, Copy, PartialEq, Eq, Debug)]
+#[derive(Clone, Copy)]
 pub enum TableFault {
     NotClaimed(usize),
     NotFalling(usize),
@@ -35,7 +29,7 @@ pub enum TableFault {
 }
 
 // What is wrong with a file that is well formed.
-#[derive(Clone, Copy, PartialEq, Eq, Debug)]
+#[derive(Clone, Copy)]
 pub enum AdoptFault {
     Worksheet(WorksheetFault),
     Table(TableFault),
