@@ -33,7 +33,7 @@ pub fn reduce(table: &[Rule], load: &Load, budget: u32) -> Result<Reduced, StepF
         if left == 0 {
             return Err(StepFault::Spent);
         }
-        let rule = table[place];
+        let rule = &table[place];
         let Ok(next) = at.exchange(&rule.left, &rule.right) else {
             return Err(StepFault::Overflow);
         };
