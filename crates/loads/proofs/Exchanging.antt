@@ -1,5 +1,5 @@
 -- What an exchange gives, by the new counts.
-use Rattle.std.proofs.Common.{◌≡◌, ℕ, ◌+◌, ◌-◌, ◌<◌, ◌≤◌, Bool, true, false, cond, ◌⊎◌, Ok, Err, sym, refl, ap, ◌∙◌, inl, inr, arith}
+use Rattle.std.proofs.Common.{◌≡◌, ℕ, ◌+◌, ◌-◌, ◌<◌, ◌≤◌, Bool, true, false, Ok, Err, sym, refl, ap, ◌∙◌, arith}
 use Rattle.loads.specs.declared.Load.{Load}
 use Rattle.loads.specs.declared.exchange.ExchangeFault.TheVariants.{Lacks, Overflow}
 use Rattle.loads.specs.Loads.{at}

@@ -1,5 +1,5 @@
 -- What numbers gathered bit by bit tell of each of them.
-use Rattle.std.proofs.Common.{◌≡◌, ℕ, ◌%◌, ◌≤◌, refl, arith}
+use Rattle.std.proofs.Common.{◌≡◌, ℕ, ◌%◌, ◌≤◌, arith}
 use lib.Bits.{bit_and, bit_or, or_add_and, and_le_l, and_le_r, or_lt, and_mask}
 
 -- nothing was gathered

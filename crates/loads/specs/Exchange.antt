@@ -1,5 +1,5 @@
 -- One load taken out of a load, and another put in.
-use Rattle.std.specs.Prelude.{Ok, Err, Result}
+use Rattle.std.specs.Prelude.{Ok, Result}
 use Rattle.loads.specs.declared.Load.{Load}
 use Rattle.loads.specs.declared.exchange.ExchangeFault.{ExchangeFault}
 use Rattle.loads.specs.declared.exchange.ExchangeFault.TheVariants.{Lacks, Overflow}

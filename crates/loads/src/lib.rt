@@ -1,4 +1,6 @@
 // Loads: how many pieces of each of eight articles. In the logic a load has counts of any size, so what is shown of loads holds beyond 16 bits.
+#![tactic(auto)]
+
 ghost use Rattle.std.specs.Prelude.{◌≡◌, T, length, ◌==◌};
 ghost use Rattle.loads.specs.Bits.{bits};
 

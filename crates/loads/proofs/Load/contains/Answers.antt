@@ -1,4 +1,4 @@
-use Rattle.std.proofs.Common.{◌≡◌, sym, arith, below_more}
+use Rattle.std.proofs.Common.{sym, arith, below_more}
 use Rattle.std.proofs.lemmas.Bool.Decides.{Decides-eqb, Decides-like}
 use Rattle.loads.proofs.Bits.{held-bits}
 use Rattle.loads.proofs.Deciding.{contains_eight, contains_decides, decides_false, decides_same}
@@ -14,9 +14,9 @@ returns-then-self-other c =
 pub loop-i-preserved : goal.loop-i-preserved
 loop-i-preserved c =
     let inv = c.loop-i.invariant in
-    let d = c.saturating-sub-lack.result in (
-      λ z. let p = or_none c.loop-i.lack d z in below_more _ _ (inv.0 p.0) (omega (arith, c.saturating-sub-lack.ensures)),
-      λ h. none_or c.loop-i.lack d (inv.1 (λ k m. h k (omega arith))) (omega (arith, c.saturating-sub-lack.ensures, h c.loop-i.i (omega arith))),
+    let d = c.saturating_sub-lack.result in (
+      λ z. let p = or_none c.loop-i.lack d z in below_more _ _ (inv.0 p.0) (omega (arith, c.saturating_sub-lack.ensures)),
+      λ h. none_or c.loop-i.lack d (inv.1 (λ k m. h k (omega arith))) (omega (arith, c.saturating_sub-lack.ensures, h c.loop-i.i (omega arith))),
     )
 
 pub returns : goal.returns

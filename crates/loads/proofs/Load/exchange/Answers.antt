@@ -25,15 +25,15 @@ loop-i-preserved c =
     let i = c.loop-i.i in
     let inv = c.loop-i.invariant in
     let f = new c.args.self.now c.args.out.now c.args.into.now in
-    let n = c.saturating-sub.result + at c.args.into.now i in
-    let is : n ≡ f i = omega (arith, c.saturating-sub.ensures) in
-    let d = c.saturating-sub-lack.result in
+    let n = c.saturating_sub.result + at c.args.into.now i in
+    let is : n ≡ f i = omega (arith, c.saturating_sub.ensures) in
+    let d = c.saturating_sub-lack.result in
     let l : i < length c.loop-i.counts = omega arith in
     let low : bit_and n 65535 ≡ f i % 65536 = low_half n ∙ ap (λ m. m % 65536) is in (
       simp length-set inv.0,
       rw low (fill_by_more (λ k. f k % 65536) c.loop-i.counts i 0 l inv.1),
-      λ z. let p = or_none c.loop-i.lack d z in below_more _ _ (inv.2 p.0) (omega (arith, c.saturating-sub-lack.ensures)),
-      λ h. none_or c.loop-i.lack d (inv.3 (λ k m. h k (omega arith))) (omega (arith, c.saturating-sub-lack.ensures, h i (omega arith))),
+      λ z. let p = or_none c.loop-i.lack d z in below_more _ _ (inv.2 p.0) (omega (arith, c.saturating_sub-lack.ensures)),
+      λ h. none_or c.loop-i.lack d (inv.3 (λ k m. h k (omega arith))) (omega (arith, c.saturating_sub-lack.ensures, h i (omega arith))),
       λ z. let p = or_low c.loop-i.high n z in below_more _ _ (inv.4 p.0) (omega arith),
       λ h. low_or c.loop-i.high n (inv.5 (λ k m. h k (omega arith))) (omega (arith, h i (omega arith))),
     )

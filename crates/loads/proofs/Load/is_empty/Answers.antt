@@ -1,5 +1,5 @@
 use Rattle.std.proofs.lemmas.Bool.Decides.{Decides-eqb, Decides-like, same_from_decides}
-use Rattle.std.proofs.Common.{◌≡◌, sym, ap, ◌∙◌}
+use Rattle.std.proofs.Common.{sym, ◌∙◌}
 use Rattle.loads.proofs.Deciding.{alike_decides}
 use Rattle.loads.proofs.Summing.{no_pieces, pieces_none}
 use Rattle.loads.proofs.Load.is_empty.Goals as goal

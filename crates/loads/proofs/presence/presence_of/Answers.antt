@@ -1,4 +1,4 @@
-use Rattle.std.proofs.Common.{◌≡◌, ◌+◌, ◌-◌, ◌<◌, get_or, drop, sym, ap, arith}
+use Rattle.std.proofs.Common.{◌≡◌, ◌+◌, ◌-◌, get_or, drop, sym, ap, arith}
 use Rattle.std.proofs.lemmas.List.{drop_all}
 use Rattle.loads.specs.Bits.{bits}
 use Rattle.loads.proofs.Bits.{bit_le, bits-few, bit_of, bits_more}
@@ -7,11 +7,11 @@ use Rattle.loads.proofs.presence.presence_of.Goals as goal
 pub loop-i-init : goal.loop-i-init
 loop-i-init c = ap bits (sym (drop_all 8 c.args.counts.now (omega arith)))
 
-pub overflow-mul-bits : goal.overflow-mul-bits
-overflow-mul-bits c = record { fits = omega (arith, bits-few c.args.counts.now c.told-counts c.loop-i.i (omega arith)) }
+pub overflow_mul-bits : goal.overflow_mul-bits
+overflow_mul-bits c = record { fits = omega (arith, bits-few c.args.counts.now c.told-counts c.loop-i.i (omega arith)) }
 
-pub overflow-add-bits : goal.overflow-add-bits
-overflow-add-bits c =
+pub overflow_add-bits : goal.overflow_add-bits
+overflow_add-bits c =
     let n = get_or c.args.counts.now (c.loop-i.i - 1) 0 in
     record { fits = omega (arith, bit_of n, bit_le n, bits-few c.args.counts.now c.told-counts c.loop-i.i (omega arith)) }
 
