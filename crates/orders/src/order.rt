@@ -21,7 +21,7 @@ pub trait Order {
 
 // The first load is above the second.
 pub fn higher<O: Order>(order: &O, a: &Load, b: &Load) -> bool
-    ensures { result ≡ above order.now a.now b.now }
+    ensures { result ≡ O.above order.now a.now b.now }
 {
     match order.compare(a, b) {
         Ordering::Greater => true,

@@ -8,7 +8,7 @@ use crate::order::Order;
 
 // No order has an endless row of loads, each below the one before.
 pub fn no_endless_row<O: Order>(order: &O)
-    ensures { NoEndlessRow (above order.now) }
+    ensures { NoEndlessRow (O.above order.now) }
 {}
 
 // The worked comparisons come out as they are told.

@@ -1,5 +1,5 @@
 -- Following a chain of line numbers from a load.
-use Rattle.std.specs.Prelude.{ℕ, ◌+◌, List, [], ◌∷◌, map, ℤ, pos, ◌-ℤ◌, Ok, Err, Result}
+use Rattle.std.specs.Prelude.{ℕ, ◌+◌, List, [], ◌∷◌, map, ℤ, pos, ◌-ℤ◌, Ok, Result}
 use Rattle.std.specs.List.{range_with_len}
 use Rattle.loads.specs.declared.Load.{Load}
 use Rattle.loads.specs.declared.exchange.ExchangeFault.{ExchangeFault}

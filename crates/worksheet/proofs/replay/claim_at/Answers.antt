@@ -1,4 +1,4 @@
-use Rattle.std.proofs.Common.{◌≡◌, map, length, Some, sym, ap, ◌∙◌, arith}
+use Rattle.std.proofs.Common.{map, Some, sym, ap, ◌∙◌, arith}
 use lib.ListN.{length-map}
 use Rattle.worksheet.specs.declared.line.Line.{Line}
 use Rattle.worksheet.proofs.Numbering.{nth-none, nth_left, nth_right, nth-map}

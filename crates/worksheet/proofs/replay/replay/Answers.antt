@@ -1,4 +1,4 @@
-use Rattle.std.proofs.Common.{◌≡◌, get_or, pos, sym, ◌∙◌, arith, w16, SFits, rules}
+use Rattle.std.proofs.Common.{get_or, pos, sym, ◌∙◌, arith, w16, SFits, rules}
 use Rattle.std.proofs.lemmas.Int.{to_z-of_z}
 use Rattle.worksheet.specs.Claims.{claims}
 use Rattle.worksheet.proofs.Following.{stops, goes_on, ends}

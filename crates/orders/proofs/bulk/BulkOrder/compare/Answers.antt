@@ -1,4 +1,5 @@
 use Rattle.std.proofs.Common.{◌-◌, sym, ap, ◌∙◌, arith}
+use Rattle.std.proofs.lemmas.Cmp.{ranked}
 use Rattle.loads.specs.Totals.{pieces}
 use Rattle.orders.specs.Comparing.{answer}
 use Rattle.orders.specs.Relations.{first_larger, turned, down, bulk}
@@ -11,7 +12,7 @@ unfolding bulk
 returns-then-first-second c =
     answer-apart pieces (turned (first_larger (down 8))) c.args.a.now c.args.b.now c.cmp.result
     (rw (c.pieces-first.ensures.is, c.pieces-second.ensures.is) at c.if-first-second.true)
-    (rw (c.pieces-first.ensures.is, c.pieces-second.ensures.is) at c.cmp.ensures)
+    (rw (c.pieces-first.ensures.is, c.pieces-second.ensures.is) at (ranked c.pieces-first.result c.pieces-second.result c.cmp.result c.cmp.ensures))
 
 pub loop-i-init : goal.loop-i-init
 unfolding bulk
@@ -26,7 +27,7 @@ loop-i-preserved c =
 pub returns-then-x-y : goal.returns-then-x-y
 returns-then-x-y c =
     place-apart c.args.b.now c.args.a.now (c.loop-i.i - 1) _ _ (down_more c.loop-i.i (omega arith)) c.count-y.ensures c.count-x.ensures
-    c.cmp-then-x-y.result (λ e. c.if-x-y.true (sym e)) c.cmp-then-x-y.ensures
+    c.cmp-then-x-y.result (λ e. c.if-x-y.true (sym e)) (ranked _ _ c.cmp-then-x-y.result c.cmp-then-x-y.ensures)
     ∙ c.loop-i.invariant
 
 pub returns : goal.returns

@@ -1,4 +1,5 @@
 use Rattle.std.proofs.Common.{sym, refl, ap, ◌∙◌, arith}
+use Rattle.std.proofs.lemmas.Cmp.{ranked}
 use Rattle.orders.specs.Comparing.{answer}
 use Rattle.orders.specs.Relations.{first_larger, listed}
 use Rattle.orders.proofs.Answering.{place_level, place-apart}
@@ -16,7 +17,7 @@ loop-i-preserved c =
 
 pub returns-then-x-y : goal.returns-then-x-y
 returns-then-x-y c =
-    place-apart c.args.a.now c.args.b.now c.loop-i.i _ _ (up_more c.loop-i.i 8 (omega arith)) c.count-x.ensures c.count-y.ensures c.cmp.result c.if-x-y.true c.cmp.ensures
+    place-apart c.args.a.now c.args.b.now c.loop-i.i _ _ (up_more c.loop-i.i 8 (omega arith)) c.count-x.ensures c.count-y.ensures c.cmp.result c.if-x-y.true (ranked _ _ c.cmp.result c.cmp.ensures)
     ∙ c.loop-i.invariant
 
 pub returns : goal.returns
