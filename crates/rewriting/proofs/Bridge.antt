@@ -1,6 +1,6 @@
 -- Search and reduction against the theory: a search that finds nothing says that the load is standard, and a reduction that is answered is a
 -- chain of steps to a standard load.
-use Rattle.std.proofs.Common.{◌≡◌, ℕ, suc, ◌+◌, Bool, true, false, List, [], ◌∷◌, Some, None, Ok, Err, Result, refl, ap, subst, inl, inr, arith}
+use Rattle.std.proofs.Common.{◌≡◌, ℕ, ◌+◌, Bool, true, false, List, [], ◌∷◌, Some, None, Ok, Err, Result, refl, ap, subst, inl, inr, arith}
 use Rattle.std.proofs.lemmas.Bool.Decides.{not_from_Decides}
 use Rattle.loads.specs.declared.Load.{Load}
 use Rattle.loads.specs.Answers.{◌>>=◌}

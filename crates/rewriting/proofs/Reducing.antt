@@ -1,5 +1,5 @@
 -- The reduction, by what the search and the new counts give.
-use Rattle.std.proofs.Common.{◌≡◌, ℕ, zero, suc, Bool, true, false, List, Some, None, Ok, Err, Option, Result, sym, refl, ap, ◌∙◌, arith}
+use Rattle.std.proofs.Common.{◌≡◌, ℕ, zero, suc, Bool, true, false, List, Some, None, Ok, Err, Option, Result, refl, ap, ◌∙◌, arith}
 use Rattle.loads.specs.declared.Load.{Load}
 use Rattle.loads.specs.declared.exchange.ExchangeFault.{ExchangeFault}
 use Rattle.loads.specs.Answers.{◌>>=◌}

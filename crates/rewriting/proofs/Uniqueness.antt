@@ -1,7 +1,6 @@
 -- A settled table is the only one of its families and its order.
 use Rattle.std.proofs.Common.{◌≡◌, ℕ, suc, ◌<◌, true, ◌⊎◌, List, [], ◌∷◌, length, sym, refl, subst, ap₂, inl, inr, arith}
 use Rattle.loads.specs.declared.Load.{Load}
-use Rattle.loads.specs.Loads.{at}
 use Rattle.loads.specs.Tests.{Contains}
 use Rattle.loads.proofs.Algebra.{same}
 use Rattle.orders.specs.Laws.{ExactlyOne, is_first, is_second, is_third, Admissible, Relation}

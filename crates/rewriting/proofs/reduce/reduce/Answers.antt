@@ -13,13 +13,13 @@ returns-then-left-eq0 c =
     let fit = search-fits c.args.table.now l.at c.in-Some.place c.in-Some.ensures.is in
     record { is = sym (l.invariant.0 ∙ rest_spent c.args.table.now l.at l.left (c.args.budget - l.left) fit.0 c.if-left-eq0.true fit.1); within = tt }
 
-pub returns-in-default-exchange : goal.returns-in-default-exchange
-returns-in-default-exchange c =
+pub returns-in_default-exchange : goal.returns-in_default-exchange
+returns-in_default-exchange c =
     let t = c.args.table.now in
     let l = c.loop-place in
     let r = c.index-table-place.result in
     let fit = search_read t l.at c.in-Some.place r c.in-Some.ensures.is c.index-table-place.is in
-    record { is = sym (l.invariant.0 ∙ rest_over t l.at l.left (c.args.budget - l.left) r c.in-default-exchange.field-0 c.if-left-eq0.false fit c.in-default-exchange.ensures); within = tt }
+    record { is = sym (l.invariant.0 ∙ rest_over t l.at l.left (c.args.budget - l.left) r c.in_default-exchange.field-0 c.if-left-eq0.false fit c.in_default-exchange.ensures); within = tt }
 
 pub loop-place-preserved : goal.loop-place-preserved
 loop-place-preserved c =
@@ -32,4 +32,4 @@ loop-place-preserved c =
 pub returns : goal.returns
 returns c =
     let l = c.loop-place in
-    record { is = sym (l.invariant.0 ∙ rest-none c.args.table.now l.at l.left (c.args.budget - l.left) c.in-default.ensures.is); within = omega arith }
+    record { is = sym (l.invariant.0 ∙ rest-none c.args.table.now l.at l.left (c.args.budget - l.left) c.in_default.ensures.is); within = omega arith }
