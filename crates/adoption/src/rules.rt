@@ -45,7 +45,7 @@ pub fn check_claims(book: &[Equation], lines: &[Line], rules: &[Rule]) -> Result
 
 // Left loads are above right loads.
 pub fn check_falls<O: Order>(order: &O, rules: &[Rule]) -> Result<(), TableFault>
-    ensures { result ≡ rules_fall (O.Order.above order.now) rules.now }
+    ensures { result ≡ rules_fall (O.above order.now) rules.now }
 {
     for i in 0..rules.len() {
         let rule = rules[i];
@@ -66,7 +66,7 @@ fn unfit(rules: &[Rule], load: &Load) -> bool
 // The left load is above the one before the place i, if there is one.
 fn rises<O: Order>(order: &O, rules: &[Rule], i: usize, left: &Load) -> bool
     requires { i < length rules.now }
-    ensures { result ≡ rises (O.Order.above order.now) (left_before rules.now i) left.now }
+    ensures { result ≡ rises (O.above order.now) (left_before rules.now i) left.now }
 {
     if i == 0 {
         return true;
@@ -78,7 +78,7 @@ fn rises<O: Order>(order: &O, rules: &[Rule], i: usize, left: &Load) -> bool
 // The left load of the rule at the place i rises and contains no other, and no rule fits its right load.
 fn is_reduced<O: Order>(order: &O, rules: &[Rule], i: usize, rule: &Rule) -> bool
     requires { i < length rules.now }
-    ensures { result ≡ reduced_at (O.Order.above order.now) rules.now i rule.now }
+    ensures { result ≡ reduced_at (O.above order.now) rules.now i rule.now }
 {
     if !rises(order, rules, i, &rule.left) {
         return false;
@@ -94,7 +94,7 @@ fn is_reduced<O: Order>(order: &O, rules: &[Rule], i: usize, rule: &Rule) -> boo
 
 // The table is reduced.
 pub fn check_reduced<O: Order>(order: &O, rules: &[Rule]) -> Result<(), TableFault>
-    ensures { result ≡ table_reduced (O.Order.above order.now) rules.now }
+    ensures { result ≡ table_reduced (O.above order.now) rules.now }
 {
     for i in 0..rules.len() {
         let rule = rules[i];
@@ -112,7 +112,7 @@ pub fn check_rules<O: Order>(
     lines: &[Line],
     rules: &[Rule],
 ) -> Result<(), TableFault>
-    ensures { result ≡ rules_hold (O.Order.above order.now) (claims book.now lines.now) rules.now }
+    ensures { result ≡ rules_hold (O.above order.now) (claims book.now lines.now) rules.now }
 {
     check_claims(book, lines, rules)?;
     check_falls(order, rules)?;

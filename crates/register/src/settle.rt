@@ -23,7 +23,7 @@ impl Register {
         capacity: u32,
         budget: u32,
     ) -> Result<Counts, Refusal>
-        ensures { Did (view self.old) (Settle (above order.now) capacity budget) (replied (λ n. Counted n.rules n.lines n.steps) result) (view self.new) }
+        ensures { Did (view self.old) (Settle (O.above order.now) capacity budget) (replied (λ n. Counted n.rules n.lines n.steps) result) (view self.new) }
     {
         if self.settled {
             return Err(Refusal::NotOpen);

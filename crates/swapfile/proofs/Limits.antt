@@ -1,5 +1,5 @@
 -- What the limits say of each row.
-use Rattle.std.proofs.Common.{◌≡◌, ◌≤◌, true, [], length}
+use Rattle.std.proofs.Common.{◌≡◌, ◌≤◌, true, length}
 use Rattle.std.proofs.lemmas.Bool.{leb-true, and_parts}
 use Rattle.swapfile.specs.Content.{Content, few}
 

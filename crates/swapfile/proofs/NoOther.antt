@@ -7,7 +7,7 @@ use Rattle.swapfile.specs.Bytes.{Bytes, number_at}
 use Rattle.swapfile.specs.Sections.{places_from, zero_free_in}
 use Rattle.swapfile.specs.ChainNumbers.{chain_number_size, chain_number_zero}
 use Rattle.swapfile.specs.Content.{Content, Within}
-use Rattle.swapfile.specs.Encoding.{equations_bytes, rules_bytes, lines_bytes, chain_bytes, rules_offset, lines_offset, chain_offset, counts, encode}
+use Rattle.swapfile.specs.Encoding.{equations_bytes, rules_bytes, lines_bytes, chain_bytes, rules_offset, lines_offset, chain_offset, encode}
 use Rattle.swapfile.specs.Layout.{layout}
 use Rattle.swapfile.specs.WellFormed.{counts_kept, in_turn, offsets_rise, records_fill, zeros_absent, well_formed}
 use Rattle.swapfile.specs.Decoding.{content, decode, Counted}

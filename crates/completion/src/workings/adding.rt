@@ -17,7 +17,7 @@ use worksheet::rule::Rule;
 
 // The fork with the higher end first.
 fn oriented<O: Order>(order: &O, fork: &Fork) -> Fork
-    ensures { result ≡ oriented_fork (above order.now) fork.now }
+    ensures { result ≡ oriented_fork (O.above order.now) fork.now }
 {
     if higher(order, &fork.first.end, &fork.second.end) {
         *fork
@@ -38,8 +38,8 @@ impl Workings {
         requires few { equations ≤ 32 }
         requires counted { fork_of (parting_of (held self.old).table fork.now) ≡ fork.now }
         requires cited { Cited fork.now.question.bridge }
-        ensures value { result ≡ answered (forked (above order.now) capacity.now.rules equations fork.now (held self.old)) }
-        ensures after { held self.new ≡ leaves (held self.old) (forked (above order.now) capacity.now.rules equations fork.now (held self.old)) }
+        ensures value { result ≡ answered (forked (O.above order.now) capacity.now.rules equations fork.now (held self.old)) }
+        ensures after { held self.new ≡ leaves (held self.old) (forked (O.above order.now) capacity.now.rules equations fork.now (held self.old)) }
     {
         let fork = oriented(order, fork);
         let left = fork.first.end;

@@ -24,8 +24,8 @@ impl Workings {
         book: &Book,
         budget: u32,
     ) -> Result<Turn, RoundFault>
-        ensures value { result ≡ answered (round (above order.now) capacity.now.rules (equations_of book.now) budget (held self.old)) }
-        ensures after { held self.new ≡ leaves (held self.old) (round (above order.now) capacity.now.rules (equations_of book.now) budget (held self.old)) }
+        ensures value { result ≡ answered (round (O.above order.now) capacity.now.rules (equations_of book.now) budget (held self.old)) }
+        ensures after { held self.new ≡ leaves (held self.old) (round (O.above order.now) capacity.now.rules (equations_of book.now) budget (held self.old)) }
     {
         match ask_all(&self.table, book, budget)? {
             Outcome::Forked(fork) => self.add(order, capacity, book.equations().len(), &fork),
@@ -45,8 +45,8 @@ impl Workings {
         book: &Book,
         budget: u32,
     ) -> Result<u32, RoundFault>
-        ensures value { result ≡ answered (settle (above order.now) capacity.now.rules (equations_of book.now) budget) }
-        ensures after { held self.new ≡ leaves blank (settle (above order.now) capacity.now.rules (equations_of book.now) budget) }
+        ensures value { result ≡ answered (settle (O.above order.now) capacity.now.rules (equations_of book.now) budget) }
+        ensures after { held self.new ≡ leaves blank (settle (O.above order.now) capacity.now.rules (equations_of book.now) budget) }
     {
         self.clear();
         let mut left = budget;

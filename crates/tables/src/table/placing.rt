@@ -28,7 +28,7 @@ fn keep_without(rules: &mut Vec<Rule>, load: &Load)
 // The place of a rule among rules whose left loads rise.
 fn place_of<O: Order>(order: &O, rules: &[Rule], rule: &Rule) -> usize
     ensures within { result ≤ length rules.now }
-    ensures place { insert rules.now result rule.now ≡ enter (above order.now) rule.now rules.now }
+    ensures place { insert rules.now result rule.now ≡ enter (O.above order.now) rule.now rules.now }
 {
     for i in 0..rules.len() {
         let other = rules[i];
@@ -42,7 +42,7 @@ fn place_of<O: Order>(order: &O, rules: &[Rule], rule: &Rule) -> usize
 // Puts a rule at its place.
 fn put_in<O: Order>(order: &O, rules: &mut Vec<Rule>, rule: Rule)
     requires { vec_len rules.old < vec_capacity rules.old }
-    ensures items { rules.new.items ≡ enter (above order.now) rule rules.old.items }
+    ensures items { rules.new.items ≡ enter (O.above order.now) rule rules.old.items }
     ensures len { vec_len rules.new ≡ vec_len rules.old + 1 }
     ensures capacity { vec_capacity rules.old ≤ vec_capacity rules.new }
 {
@@ -74,7 +74,7 @@ impl Table {
     // Puts a rule at its place, so that left loads rise. Not where 128 rules are held, or where the rule's line is above 544.
     pub fn put<O: Order>(&mut self, order: &O, rule: Rule) -> bool
         ensures value { result ≡ (nat_lt (length (rules_of self.old)) 128 && nat_le rule.line 544) }
-        ensures after { rules_of self.new ≡ (if result then enter (above order.now) rule (rules_of self.old) else rules_of self.old) }
+        ensures after { rules_of self.new ≡ (if result then enter (O.above order.now) rule (rules_of self.old) else rules_of self.old) }
     {
         if self.rules.len() >= 128 || rule.line > 544 {
             return false;

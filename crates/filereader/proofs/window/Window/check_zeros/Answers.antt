@@ -23,7 +23,7 @@ loop-preserved g c =
     let zeros = g.R.Record.zeros b in
     let here = held-some _ _ _ _ c.in-Some-read.ensures in
     (λ i. zero_free_in zeros (places_from size b (s.count - (c.loop.counter + 1)) (here.1 i).end))
-    ∙ zero_goes size b zeros s.count c.loop.counter c.loop.at _ c.loop.invariant c.loop-test.true here.0 (c.in-default.ensures ∙ told size b c.loop.at _ here.0)
+    ∙ zero_goes size b zeros s.count c.loop.counter c.loop.at _ c.loop.invariant c.loop-test.true here.0 (c.in_default.ensures ∙ told size b c.loop.at _ here.0)
 
 pub returns : goal.returns
 returns g c =

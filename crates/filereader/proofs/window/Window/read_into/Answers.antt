@@ -37,5 +37,5 @@ pub returns : goal.returns
 returns g c =
     let l = c.loop-value in
     let free : leb (vec_len c.args.row.now + c.args.self.count) (vec_capacity c.args.row.now) ≡ true = le-leb _ _ (omega (arith, c.capacity.ensures, c.len.ensures)) in
-    let none = none_of _ c.in-default.ensures.value in
+    let none = none_of _ c.in_default.ensures.value in
     record { told = rw free refl; items = sym (append-nil (vec_items l.row)) ∙ ap (λ vs. vec_items l.row ++ vs) (sym none) ∙ l.invariant.2; capacity = l.invariant.1 }

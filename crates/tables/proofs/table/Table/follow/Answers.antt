@@ -6,11 +6,11 @@ use Rattle.tables.proofs.Strides.{trail-none, trail-some}
 use Rattle.tables.proofs.Writing.{ahead_none, ahead_more}
 use Rattle.tables.proofs.table.Table.follow.Goals as goal
 
-pub returns-in-default : goal.returns-in-default
-returns-in-default c =
+pub returns-in_default : goal.returns-in_default
+returns-in_default c =
     let l = c.loop-i in
     let t = rules_of c.args.self.now in
-    sym (l.invariant ∙ ahead_none l.i _ l.row (trail-none t l.at (length c.args.row.now - l.i) (sym c.in-default.ensures.is)))
+    sym (l.invariant ∙ ahead_none l.i _ l.row (trail-none t l.at (length c.args.row.now - l.i) (sym c.in_default.ensures.is)))
 
 pub loop-i-preserved : goal.loop-i-preserved
 loop-i-preserved c =

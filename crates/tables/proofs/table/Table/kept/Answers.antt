@@ -8,7 +8,7 @@ use Rattle.tables.proofs.table.Table.kept.Goals.{then-not-contains, else-not-con
 pub loop-rule-preserved : goal.loop-rule-preserved
 loop-rule-preserved c =
     let l = c.loop-rule in
-    let rows = c.as-slice-rule-items.result.now in
+    let rows = c.as_slice-rule-items.result.now in
     elim c.if-not-contains.branch [
       | then-not-contains w ↦ (kept_more c.args.load.now rows l.rule-index c.rule-item.result true l.count _ (omega arith) c.rule-item.is (ap not (sym w.if-not-contains.ensures)) w.count-is l.invariant.0, omega (arith, w.count-is))
       | else-not-contains w ↦ (kept_more c.args.load.now rows l.rule-index c.rule-item.result false l.count _ (omega arith) c.rule-item.is (ap not (sym w.if-not-contains.ensures)) (omega (arith, w.count-is)) l.invariant.0, omega (arith, w.count-is))
@@ -18,4 +18,4 @@ pub returns : goal.returns
 returns c =
     let l = c.loop-rule in
     l.invariant.0
-    ∙ ap (λ t. length (without c.args.load.now t)) (take_all l.rule-index c.as-slice-rule-items.result.now (omega arith) ∙ c.as-slice-rule-items.ensures.value)
+    ∙ ap (λ t. length (without c.args.load.now t)) (take_all l.rule-index c.as_slice-rule-items.result.now (omega arith) ∙ c.as_slice-rule-items.ensures.value)

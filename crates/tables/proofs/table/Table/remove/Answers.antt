@@ -5,8 +5,8 @@ use Rattle.tables.proofs.Citing.{citable-without}
 use Rattle.tables.proofs.Places.{length_without}
 use Rattle.tables.proofs.table.Table.remove.Goals as goal
 
-pub invariant-of-self : goal.invariant-of-self
-invariant-of-self c =
+pub invariant_of-self : goal.invariant_of-self
+invariant_of-self c =
     let t = rules_of c.args.self.now in
-    let kept = c.keep-without.ensures.items in
-    (omega arith, (omega (arith, ap length kept, length_without c.args.load.now t), (ap citable kept ∙ citable-without c.args.load.now t c.args.self.now.cited, tt)))
+    let kept = c.keep_without.ensures.items in
+    record { room = omega arith; few = omega (arith, ap length kept, length_without c.args.load.now t); cited = ap citable kept ∙ citable-without c.args.load.now t c.args.self.now.cited }

@@ -9,10 +9,10 @@ use Rattle.tables.proofs.table.Table.undo.Goals as goal
 pub loop-i-init : goal.loop-i-init
 loop-i-init c = behind_all (trail (rules_of c.args.self.now) (length c.args.row.now) c.args.load.now) c.args.row.now
 
-pub returns-in-default : goal.returns-in-default
-returns-in-default c =
+pub returns-in_default : goal.returns-in_default
+returns-in_default c =
     let l = c.loop-i in
-    sym (l.invariant ∙ behind-none l.i _ l.row (trail-none (rules_of c.args.self.now) l.at l.i (sym c.in-default.ensures.is)))
+    sym (l.invariant ∙ behind-none l.i _ l.row (trail-none (rules_of c.args.self.now) l.at l.i (sym c.in_default.ensures.is)))
 
 pub loop-i-preserved : goal.loop-i-preserved
 loop-i-preserved c =
