@@ -1,5 +1,5 @@
 -- Line numbers that can be cited, through every change of a table.
-use Rattle.std.proofs.Common.{◌≡◌, ℕ, zero, suc, ◌<◌, ◌≤◌, Bool, true, false, cond, not, ◌&&◌, leb, List, [], ◌∷◌, length, get_or, set, sym, refl, ap, ◌∙◌, arith}
+use Rattle.std.proofs.Common.{◌≡◌, ℕ, zero, suc, ◌<◌, ◌≤◌, true, not, leb, List, [], ◌∷◌, length, get_or, set, refl, arith}
 use Rattle.std.proofs.lemmas.Bool.{and_parts, and_from, leb-true, le-leb, cond_both}
 use Rattle.loads.specs.declared.Load.{Load}
 use Rattle.loads.specs.Tests.{contains}

@@ -1,12 +1,10 @@
 -- The next step, by what the search and the exchange give, and the trail that it begins.
-use Rattle.std.proofs.Common.{◌≡◌, ℕ, zero, suc, List, [], ◌∷◌, get_or, Some, None, Ok, Err, Option, Result, sym, refl, ap, ◌∙◌}
+use Rattle.std.proofs.Common.{◌≡◌, ℕ, zero, suc, List, [], ◌∷◌, get_or, Some, None, Ok, Err, Result, sym, refl, ap, ◌∙◌}
 use Rattle.loads.specs.declared.Load.{Load}
 use Rattle.loads.specs.declared.exchange.ExchangeFault.{ExchangeFault}
-use Rattle.loads.specs.Answers.{◌>>=◌}
 use Rattle.loads.specs.Exchange.{swapped, exchanged}
 use Rattle.worksheet.specs.declared.rule.Rule.{Rule}
 use Rattle.rewriting.specs.declared.reduce.StepFault.{StepFault}
-use Rattle.rewriting.specs.declared.reduce.StepFault.TheVariants.{Overflow}
 use Rattle.rewriting.specs.Reducing.{fitting, search, sized}
 use Rattle.rewriting.proofs.Searching.{search-none, search_read, fitting-contains}
 use Rattle.rewriting.proofs.Reducing.{exchange_made, exchange_refused}

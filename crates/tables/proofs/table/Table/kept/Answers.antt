@@ -1,4 +1,4 @@
-use Rattle.std.proofs.Common.{◌≡◌, true, false, not, length, sym, ap, ◌∙◌, arith}
+use Rattle.std.proofs.Common.{true, false, not, length, sym, ap, ◌∙◌, arith}
 use Rattle.std.proofs.lemmas.List.{take_all}
 use Rattle.tables.specs.Placing.{without}
 use Rattle.tables.proofs.Places.{kept_more}

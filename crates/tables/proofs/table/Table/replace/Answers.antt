@@ -1,4 +1,4 @@
-use Rattle.std.proofs.Common.{vec_items, arith, rules}
+use Rattle.std.proofs.Common.{vec_items, arith}
 use Rattle.tables.proofs.Citing.{citable-set}
 use Rattle.tables.proofs.table.Table.replace.Goals as goal
 

@@ -1,6 +1,5 @@
-use Rattle.std.proofs.Common.{◌≡◌, not, sym, ap, ◌∙◌, arith, rules}
-use Rattle.std.proofs.lemmas.List.Filters.{FiltersInPlace, FiltersInPlace-all, FiltersInPlace-more_no, FiltersInPlace-more_set}
-use Rattle.tables.proofs.Places.{clear_of}
+use Rattle.std.proofs.Common.{not, sym, ap, ◌∙◌, rules}
+use Rattle.std.proofs.lemmas.List.Filters.{FiltersInPlace-all, FiltersInPlace-more_no, FiltersInPlace-more_set}
 use Rattle.tables.proofs.table.placing.keep_without.Goals as goal
 use Rattle.tables.proofs.table.placing.keep_without.Goals.{then-not-contains, else-not-contains}
 
