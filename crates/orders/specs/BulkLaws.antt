@@ -2,7 +2,7 @@
 -- is fewer of the last.
 use Rattle.std.specs.Prelude.{◌≡◌, ℕ, zero, suc, ◌+◌, ◌<◌, refl}
 use Rattle.std.proofs.Common.{◌∙◌, inl, inr, arith}
-use Rattle.std.specs.List.{AllByRecursion as All}
+use Rattle.std.specs.List.{AllByRecursion}
 use Rattle.std.proofs.lemmas.Bool.{cases_eq}
 use Rattle.std.proofs.lemmas.Bool.Decides.{nat_tests}
 use Rattle.loads.specs.declared.Load.{Load}
@@ -41,7 +41,7 @@ totals : (x y : Load) (n : ℕ) → by_fronts (suc n) x y ≡ levelled (λ z. fr
 totals x y n = elim (cases_eq (front x n) (front y n)) [ inl e ↦ let h = fronts x y n e in grind (arith, nat_tests) | inr ne ↦ grind (arith, nat_tests) ]
 
 -- a count is what one more article adds
-told : (x y : Load) → All (λ n. front x n ≡ front y n) (down 9) → (k : ℕ) → k < 8 → at x k ≡ at y k
+told : (x y : Load) → AllByRecursion (λ n. front x n ≡ front y n) (down 9) → (k : ℕ) → k < 8 → at x k ≡ at y k
 told x y h k l =
     let level = all_down (λ n. front x n ≡ front y n) 9 h in
     omega (arith, sum_more k (at x), sum_more k (at y), level k (omega arith), level (k + 1) (omega arith))

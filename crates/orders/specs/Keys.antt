@@ -2,7 +2,7 @@
 use Rattle.std.specs.Prelude.{◌≡◌, ℕ, ◌+◌, ◌<◌, Bool, List, refl}
 use Rattle.std.proofs.Common.{sym, ap, subst, ◌∙◌}
 use mathlib.Core.WellFounded.InvImage
-use Rattle.std.specs.List.{AllByRecursion as All}
+use Rattle.std.specs.List.{AllByRecursion}
 use Rattle.loads.specs.declared.Load.{Load}
 use Rattle.loads.specs.Loads.{at, empty, plus}
 use Rattle.loads.proofs.Algebra.{same_eight}
@@ -43,7 +43,7 @@ by_key {above = above} key r a apart =
 
 -- loads ranked by a row of numbers that add up and tell the eight counts
 pub by_row : (f : Load → ℕ → ℕ) (ps : List ℕ) → ((p : ℕ) → Additive 0 ◌+◌ (λ x. f x p))
-    → ((x y : Load) → All (λ p. f x p ≡ f y p) ps → (k : ℕ) → k < 8 → at x k ≡ at y k) → Admissible (λ x y. row_above ps (row ps (f x)) (row ps (f y)))
+    → ((x y : Load) → AllByRecursion (λ p. f x p ≡ f y p) ps → (k : ℕ) → k < 8 → at x k ≡ at y k) → Admissible (λ x y. row_above ps (row ps (f x)) (row ps (f y)))
 by_row f ps adds told =
     by_key (λ x. row ps (f x)) (rows ps)
     (record { of_empty = row_like ps (λ p. (adds p).of_empty); of_plus = λ x y. row_like ps (λ p. (adds p).of_plus x y) ∙ row_sum ps (f x) (f y) })

@@ -1,7 +1,7 @@
 -- The places of the articles, as a loop takes them.
 use Rattle.std.specs.Prelude.{◌≡◌, ℕ, zero, suc, ◌+◌, ◌-◌, ◌<◌, ◌≤◌, [], ◌∷◌}
 use Rattle.std.proofs.Common.{ap, inl, inr, arith}
-use Rattle.std.specs.List.{range_with_len, AllByRecursion as All}
+use Rattle.std.specs.List.{range_with_len, AllByRecursion}
 use Rattle.std.proofs.lemmas.Bool.{cases_eq}
 use Rattle.orders.specs.Relations.{down}
 
@@ -21,6 +21,6 @@ pub down_none : (i : ℕ) → i ≤ 0 → down i ≡ []
 down_none i l = let e : i ≡ 0 = omega arith in ap down e
 
 -- what holds at each place that is passed on the way down
-pub all_down : (P : ℕ → Type 0) (n : ℕ) → All P (down n) → (k : ℕ) → k < n → P k
+pub all_down : (P : ℕ → Type 0) (n : ℕ) → AllByRecursion P (down n) → (k : ℕ) → k < n → P k
 all_down P zero h k l = absurd (omega arith)
 all_down P (suc n) h k l = elim (cases_eq k n) [ inl e ↦ rw e h.0 | inr ne ↦ all_down P n h.1 k (omega arith) ]

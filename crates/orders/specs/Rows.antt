@@ -1,7 +1,7 @@
 -- Rows of numbers, one for each place of a list, compared at the first that differs.
 use Rattle.std.specs.Prelude.{◌≡◌, ℕ, ◌+◌, Bool, false, List, [], ◌∷◌, nat_eq, refl}
 use mathlib.Core.WellFounded.Acc
-use Rattle.std.specs.List.{AllByRecursion as All}
+use Rattle.std.specs.List.{AllByRecursion}
 use Rattle.std.proofs.lemmas.Bool.{false≢true}
 use Rattle.std.proofs.lemmas.Bool.Decides.{Decides-eqb}
 use Rattle.orders.specs.Laws.{is_third}
@@ -51,6 +51,6 @@ row_sum [] f g = refl
 row_sum (p ∷ ps) f g = λ i. (f p + g p, row_sum ps f g i)
 
 -- equal rows have equal numbers
-pub row_told : (ps : List ℕ) (f g : ℕ → ℕ) → row ps f ≡ row ps g → All (λ p. f p ≡ g p) ps
+pub row_told : (ps : List ℕ) (f g : ℕ → ℕ) → row ps f ≡ row ps g → AllByRecursion (λ p. f p ≡ g p) ps
 row_told [] f g e = tt
 row_told (p ∷ ps) f g e = ((λ i. (e i).0), row_told ps f g (λ i. (e i).1))

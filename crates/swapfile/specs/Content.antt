@@ -1,6 +1,6 @@
 -- What a file holds, and how much of it there may be.
 use Rattle.std.specs.Prelude.{◌≡◌, ℕ, Bool, true, ◌&&◌, List, length, ℤ, nat_le}
-use Rattle.std.specs.List.{AllByRecursion as All}
+use Rattle.std.specs.List.{AllByRecursion}
 use Rattle.worksheet.specs.declared.equation.Equation.{Equation}
 use Rattle.worksheet.specs.declared.line.Line.{Line}
 use Rattle.worksheet.specs.declared.rule.Rule.{Rule}
@@ -44,7 +44,7 @@ few m =
 -- it does, and each of its numbers has two bytes
 pub record Within (m : Content) : Type 0 where
   pub limits : few m ≡ true
-  pub equations : All (λ e. equation_fits e ≡ true) m.equations
-  pub rules : All (λ r. rule_fits r ≡ true) m.rules
-  pub lines : All (λ l. line_fits l ≡ true) m.lines
-  pub chain : All ChainNumberFits m.chain
+  pub equations : AllByRecursion (λ e. equation_fits e ≡ true) m.equations
+  pub rules : AllByRecursion (λ r. rule_fits r ≡ true) m.rules
+  pub lines : AllByRecursion (λ l. line_fits l ≡ true) m.lines
+  pub chain : AllByRecursion ChainNumberFits m.chain

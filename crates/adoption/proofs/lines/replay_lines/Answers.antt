@@ -17,12 +17,12 @@ pub slice-bounds-check-line-end-in-loop-i : goal.slice-bounds-check-line-end-in-
 slice-bounds-check-line-end-in-loop-i c =
     omega (arith, c.loop-i.invariant.0, lengths_next c.args.lines.now c.loop-i.i c.index-lines-i.result (omega arith) c.index-lines-i.is)
 
-pub returns-in-err-check-line : goal.returns-in-err-check-line
-returns-in-err-check-line c =
+pub returns-in_err-check-line : goal.returns-in_err-check-line
+returns-in_err-check-line c =
     let p = err_from_is_err_and c.from-residual.result c.from-residual.ensures.1 in
     let l = c.index-lines-i.result in
     rw (p.1, p.2) (sym (c.loop-i.invariant.1
-    ∙ replays_stop c.args.book.now c.args.lines.now c.args.chain.now c.loop-i.i c.loop-i.start l (omega arith) c.index-lines-i.is (c.loop-i.start + l.length - c.loop-i.start) (omega arith) _ c.in-err-check-line.ensures))
+    ∙ replays_stop c.args.book.now c.args.lines.now c.args.chain.now c.loop-i.i c.loop-i.start l (omega arith) c.index-lines-i.is (c.loop-i.start + l.length - c.loop-i.start) (omega arith) _ c.in_err-check-line.ensures))
 
 pub loop-i-preserved : goal.loop-i-preserved
 loop-i-preserved c =
@@ -30,7 +30,7 @@ loop-i-preserved c =
     let next = lengths_next c.args.lines.now c.loop-i.i l (omega arith) c.index-lines-i.is in (
       omega (arith, c.loop-i.invariant.0, next),
       c.loop-i.invariant.1
-          ∙ replays_next c.args.book.now c.args.lines.now c.args.chain.now c.loop-i.i c.loop-i.start l (omega arith) c.index-lines-i.is (c.loop-i.start + l.length - c.loop-i.start) (omega arith) tt c.in-ok-check-line.ensures,
+          ∙ replays_next c.args.book.now c.args.lines.now c.args.chain.now c.loop-i.i c.loop-i.start l (omega arith) c.index-lines-i.is (c.loop-i.start + l.length - c.loop-i.start) (omega arith) tt c.in_ok-check-line.ensures,
     )
 
 pub returns : goal.returns

@@ -4,18 +4,18 @@ use Rattle.tables.specs.Rows.{rules_of, equations_of}
 use Rattle.questions.proofs.Turns.{onward, asks_all}
 use Rattle.questions.proofs.asking.ask_all.Goals as goal
 
-pub returns-in-err-left : goal.returns-in-err-left
-returns-in-err-left c =
-    let p = err_from_is_err_and c.from-residual.result c.from-residual.ensures.1 in
+pub returns-in_err-left : goal.returns-in_err-left
+returns-in_err-left c =
+    let p = err_from_is_err_and c.from_residual.result c.from_residual.ensures.1 in
     let all = asks_all (rules_of c.args.table.now) c.rules-rules.result.now (equations_of c.args.book.now) c.equations.result.now c.args.budget c.rules-rules.ensures.value c.equations.ensures.value in
-    rw (p.1, p.2) (sym (all ∙ ap (onward _) (sym c.in-err-left.ensures)))
+    rw (p.1, p.2) (sym (all ∙ ap (onward _) (sym c.in_err-left.ensures)))
 
 pub returns-in-Met : goal.returns-in-Met
 returns-in-Met c =
     let all = asks_all (rules_of c.args.table.now) c.rules-rules.result.now (equations_of c.args.book.now) c.equations.result.now c.args.budget c.rules-rules.ensures.value c.equations.ensures.value in
-    c.ask-pairs.ensures ∙ sym (all ∙ ap (onward _) (sym (ap Ok (sym c.in-Met.is) ∙ c.in-ok-left.ensures)))
+    c.ask_pairs.ensures ∙ sym (all ∙ ap (onward _) (sym (ap Ok (sym c.in-Met.is) ∙ c.in_ok-left.ensures)))
 
 pub returns-in-Forked : goal.returns-in-Forked
 returns-in-Forked c =
     let all = asks_all (rules_of c.args.table.now) c.rules-rules.result.now (equations_of c.args.book.now) c.equations.result.now c.args.budget c.rules-rules.ensures.value c.equations.ensures.value in
-    sym (all ∙ ap (onward _) (sym (ap Ok (sym c.in-Forked.is) ∙ c.in-ok-left.ensures)))
+    sym (all ∙ ap (onward _) (sym (ap Ok (sym c.in-Forked.is) ∙ c.in_ok-left.ensures)))

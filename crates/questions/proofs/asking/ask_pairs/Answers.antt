@@ -4,21 +4,21 @@ use Rattle.questions.proofs.Turns.{onward, peaks_next, peaks-end}
 use Rattle.questions.proofs.asking.ask_pairs.Goals as goal
 
 -- this turn's question, then the rest
-pub returns-in-err-rest : goal.returns-in-err-rest
-returns-in-err-rest c =
-    let p = err_from_is_err_and c.from-residual.result c.from-residual.ensures.1 in
+pub returns-in_err-rest : goal.returns-in_err-rest
+returns-in_err-rest c =
+    let p = err_from_is_err_and c.from_residual.result c.from_residual.ensures.1 in
     let next = peaks_next c.args.rules.now c.loop-i.left c.loop-i.i c.index-rules-i.result (omega arith) c.index-rules-i.is in
-    rw (p.1, p.2) (sym (c.loop-i.invariant ∙ next ∙ ap (onward _) (sym c.in-err-rest.ensures)))
+    rw (p.1, p.2) (sym (c.loop-i.invariant ∙ next ∙ ap (onward _) (sym c.in_err-rest.ensures)))
 
 pub returns-in-Forked : goal.returns-in-Forked
 returns-in-Forked c =
     let next = peaks_next c.args.rules.now c.loop-i.left c.loop-i.i c.index-rules-i.result (omega arith) c.index-rules-i.is in
-    sym (c.loop-i.invariant ∙ next ∙ ap (onward _) (sym (ap Ok (sym c.in-Forked.is) ∙ c.in-ok-rest.ensures)))
+    sym (c.loop-i.invariant ∙ next ∙ ap (onward _) (sym (ap Ok (sym c.in-Forked.is) ∙ c.in_ok-rest.ensures)))
 
 pub loop-i-preserved : goal.loop-i-preserved
 loop-i-preserved c =
     let next = peaks_next c.args.rules.now c.loop-i.left c.loop-i.i c.index-rules-i.result (omega arith) c.index-rules-i.is in
-    c.loop-i.invariant ∙ next ∙ ap (onward _) (sym (ap Ok (sym c.in-Met.is) ∙ c.in-ok-rest.ensures))
+    c.loop-i.invariant ∙ next ∙ ap (onward _) (sym (ap Ok (sym c.in-Met.is) ∙ c.in_ok-rest.ensures))
 
 pub returns : goal.returns
 returns c = sym (c.loop-i.invariant ∙ peaks-end c.args.rules.now c.loop-i.left c.loop-i.i (omega arith))

@@ -7,8 +7,8 @@ use Rattle.records.proofs.Loads.{counts_more, counts_end}
 use Rattle.records.proofs.stored_load.read_load.Goals as goal
 use Rattle.records.proofs.stored_load.read_load.Goals.{then-left-eq1, else-left-eq1}
 
-pub number-at-count-requires : goal.number-at-count-requires
-number-at-count-requires c = omega (arith, ones_step c.loop-i.left)
+pub number_at-count-requires : goal.number_at-count-requires
+number_at-count-requires c = omega (arith, ones_step c.loop-i.left)
 
 pub loop-i-preserved : goal.loop-i-preserved
 loop-i-preserved c =
@@ -23,7 +23,7 @@ loop-i-preserved c =
             omega arith,
             omega (arith, w.place-is),
             counts_more b l.counts l.i l.left l.place here.count here.place _ c.loop-i-test.true l.invariant.0
-                (w.count-is ∙ w.number-at-count.ensures ∙ ap (λ r. if_set r (number_at b l.place)) (sym odd)) (omega (arith, w.place-is)) l.invariant.2,
+                (w.count-is ∙ w.number_at-count.ensures ∙ ap (λ r. if_set r (number_at b l.place)) (sym odd)) (omega (arith, w.place-is)) l.invariant.2,
           )
       | else-left-eq1 w ↦
           let even : l.left % 2 ≡ 0 = omega (arith, w.if-left-eq1.false) in (

@@ -18,9 +18,9 @@ pub returns-then-not-has-room : goal.returns-then-not-has-room
 returns-then-not-has-room c =
     let s = held c.args.self.now in
     let f = c.args.found.now in
-    let x = c.in-ok-reduced.reduced in
+    let x = c.in_ok-reduced.reduced in
     let h = c.renewal-fork.result in
-    let is = told_at (right_place f.place) s.table c.rules.result.now c.args.budget f.rule.right x c.reduce.result c.in-ok-reduced.ensures c.reduce.ensures.is c.rules.ensures.value in
+    let is = told_at (right_place f.place) s.table c.rules.result.now c.args.budget f.rule.right x c.reduce.result c.in_ok-reduced.ensures c.reduce.ensures.is c.rules.ensures.value in
     let counted = renewal-counted c.args.equations c.args.budget f s x h is c.renewal-fork.ensures in
     let none = derived-room s.added s.table h c.chain-length.result counted c.chain-length.ensures ∙ sym c.if-not-has-room.ensures in
     let out = change_no_room c.args.equations c.args.budget f s x h is c.renewal-fork.ensures none in
@@ -30,9 +30,9 @@ pub note-requires : goal.note-requires
 note-requires c =
     let s = held c.args.self.now in
     let f = c.args.found.now in
-    let x = c.in-ok-reduced.reduced in
+    let x = c.in_ok-reduced.reduced in
     let h = c.renewal-fork.result in
-    let is = told_at (right_place f.place) s.table c.rules.result.now c.args.budget f.rule.right x c.reduce.result c.in-ok-reduced.ensures c.reduce.ensures.is c.rules.ensures.value in
+    let is = told_at (right_place f.place) s.table c.rules.result.now c.args.budget f.rule.right x c.reduce.result c.in_ok-reduced.ensures c.reduce.ensures.is c.rules.ensures.value in
     let counted = renewal-counted c.args.equations c.args.budget f s x h is c.renewal-fork.ensures in
     record {
       counted = counted;
@@ -44,10 +44,10 @@ pub returns : goal.returns
 returns c =
     let s = held c.args.self.now in
     let f = c.args.found.now in
-    let x = c.in-ok-reduced.reduced in
+    let x = c.in_ok-reduced.reduced in
     let h = c.renewal-fork.result in
     let w = c.note.new.self in
-    let is = told_at (right_place f.place) s.table c.rules.result.now c.args.budget f.rule.right x c.reduce.result c.in-ok-reduced.ensures c.reduce.ensures.is c.rules.ensures.value in
+    let is = told_at (right_place f.place) s.table c.rules.result.now c.args.budget f.rule.right x c.reduce.result c.in_ok-reduced.ensures c.reduce.ensures.is c.rules.ensures.value in
     let counted = renewal-counted c.args.equations c.args.budget f s x h is c.renewal-fork.ensures in
     let room = derived-room s.added s.table h c.chain-length.result counted c.chain-length.ensures ∙ sym c.if-not-has-room.ensures in
     let made = change_made c.args.equations c.args.budget f s x h is c.renewal-fork.ensures room in

@@ -13,10 +13,10 @@ returns-then-self-eq0 g c =
     let none = sym (none_left g.R.Record.size s.bytes s.count s.start c.if-self-eq0.true) in
     record { read = ap (λ ps. option_map (found g.R.Record.size g.R.Record.item s.bytes) (nth ps 0)) none; moved = ap (λ ps. behind g.R.Record.size s (nth ps 0)) none }
 
-pub returns-in-err-found : goal.returns-in-err-found
-returns-in-err-found g c =
+pub returns-in_err-found : goal.returns-in_err-found
+returns-in_err-found g c =
     let s = shown c.args.self.now in
-    let none = sym (none-held g.R.Record.size s.bytes s.count s.start (held_none _ _ _ c.in-err-found.ensures)) in
+    let none = sym (none-held g.R.Record.size s.bytes s.count s.start (held_none _ _ _ c.in_err-found.ensures)) in
     record {
       read = c.from-residual.ensures ∙ ap (λ ps. option_map (found g.R.Record.size g.R.Record.item s.bytes) (nth ps 0)) none;
       moved = ap (λ ps. behind g.R.Record.size s (nth ps 0)) none;
@@ -25,7 +25,7 @@ returns-in-err-found g c =
 pub returns : goal.returns
 returns g c =
     let s = shown c.args.self.now in
-    let here = held-some _ _ _ _ c.in-ok-found.ensures in
+    let here = held-some _ _ _ _ c.in_ok-found.ensures in
     let one = sym (one_more g.R.Record.size s.bytes s.count s.start (omega arith) here.0) in
     record {
       read = ap Some here.1 ∙ ap (λ ps. option_map (found g.R.Record.size g.R.Record.item s.bytes) (nth ps 0)) one;

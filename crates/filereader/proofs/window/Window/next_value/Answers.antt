@@ -7,14 +7,14 @@ use Rattle.records.proofs.Held.{told}
 use Rattle.filereader.proofs.Walking.{went, ended, values_step}
 use Rattle.filereader.proofs.window.Window.next_value.Goals as goal
 
-pub returns-in-err-found : goal.returns-in-err-found
-returns-in-err-found g c =
+pub returns-in_err-found : goal.returns-in_err-found
+returns-in_err-found g c =
     let size = g.R.Record.size in
     let value = g.R.Record.value in
     let s = shown c.args.self.now in
     let t = shown c.next.new.self in
-    let none = ended size s (found size g.R.Record.item s.bytes) c.in-err-found.ensures.read in
-    let gone = c.in-err-found.ensures.moved in
+    let none = ended size s (found size g.R.Record.item s.bytes) c.in_err-found.ensures.read in
+    let gone = c.in_err-found.ensures.moved in
     let same : t ≡ s = gone ∙ ap (λ ps. behind size s (nth ps 0)) none in
     let empty : values size value s ≡ [] = ap (map (value s.bytes)) none in
     record {
@@ -30,14 +30,14 @@ returns g c =
     let value = g.R.Record.value in
     let s = shown c.args.self.now in
     let t = shown c.next.new.self in
-    let f = c.in-ok-found.found in
-    let w = went size s t (found size g.R.Record.item s.bytes) f c.in-ok-found.ensures.read c.in-ok-found.ensures.moved in
+    let f = c.in_ok-found.found in
+    let w = went size s t (found size g.R.Record.item s.bytes) f c.in_ok-found.ensures.read c.in_ok-found.ensures.moved in
     let one = values_step size value s t s.start w.places_are w.bytes in
     let answer : c.value.result ≡ Some (value s.bytes s.start) =
     c.value.ensures ∙ (λ i. held size (w.bytes i) (w.is i).byte (Some (value (w.bytes i) (w.is i).byte))) ∙ told size s.bytes s.start _ w.room in
     record {
       value = answer ∙ ap (λ vs. nth vs 0) (sym one);
-      moved = c.in-ok-found.ensures.moved;
+      moved = c.in_ok-found.ensures.moved;
       values = ap (drop 1) (sym one);
       left = rw answer w.count;
     }

@@ -15,18 +15,18 @@ use Rattle.register.proofs.register.Register.settle.Goals as goal
 
 pub invariant-of-self : goal.invariant-of-self
 invariant-of-self g c =
-    let z = refused_so blank _ (held c.settle.new.self) c.in-err-steps.ensures.after _ c.in-err-steps.ensures.value in
+    let z = refused_so blank _ (held c.settle.new.self) c.in_err-steps.ensures.after _ c.in_err-steps.ensures.value in
     (λ _. (ap (λ (s : State). length s.table) z.1, ap (λ (s : State). length s.added) z.1), (c.args.self.now.small, (∣ (λ e. absurd (false≢true (sym c.if-self.false ∙ e))) ∣₁, tt)))
 
-pub returns-in-err-steps : goal.returns-in-err-steps
-returns-in-err-steps g c =
+pub returns-in_err-steps : goal.returns-in_err-steps
+returns-in_err-steps g c =
     let r = c.args.self.now in
     let book = equations_of r.book in
     let above = g.O.Order.above c.args.order.now in
     let most = c.in-Some.most in
     let same = c.in-Some.ensures in
     let p = err_from_is_err_and c.from-residual.result c.from-residual.ensures.1 in
-    let z = refused_so blank _ (held c.settle.new.self) c.in-err-steps.ensures.after _ c.in-err-steps.ensures.value in
+    let z = refused_so blank _ (held c.settle.new.self) c.in_err-steps.ensures.after _ c.in_err-steps.ensures.value in
     let none = ap (λ b. sheet_if b (held r.workings)) c.if-self.false in
     let refused = settle_refused above (view r) none c.args.capacity c.args.budget (capacity_fits most.rules c.args.capacity same most.some most.few) _
     (ap (λ n. settle above n book c.args.budget) (sym same) ∙ z.0) in
@@ -36,7 +36,7 @@ pub invariant-of-self-2 : goal.invariant-of-self-2
 invariant-of-self-2 g c =
     let r = c.args.self.now in
     let above = g.O.Order.above c.args.order.now in
-    let z = answered_so blank _ (held c.settle.new.self) c.in-ok-steps.ensures.after _ c.in-ok-steps.ensures.value in
+    let z = answered_so blank _ (held c.settle.new.self) c.in_ok-steps.ensures.after _ c.in_ok-steps.ensures.value in
     let sound = settle_guarantees above (g.met.O.Order.laws c.args.order.now) (equations_of r.book) r.small c.in-Some.most.rules c.args.budget _ _ z in
     (λ e. absurd (false≢true (sym e)), (r.small, (∥∥₁_map sound (λ k _. k), tt)))
 
@@ -48,12 +48,12 @@ returns g c =
     let most = c.in-Some.most in
     let same = c.in-Some.ensures in
     let s = held c.settle.new.self in
-    let z = answered_so blank _ s c.in-ok-steps.ensures.after _ c.in-ok-steps.ensures.value in
+    let z = answered_so blank _ s c.in_ok-steps.ensures.after _ c.in_ok-steps.ensures.value in
     let none = ap (λ b. sheet_if b (held r.workings)) c.if-self.false in
-    let done = settle_did above (view r) none c.args.capacity c.args.budget (capacity_fits most.rules c.args.capacity same most.some most.few) c.in-ok-steps.steps s
+    let done = settle_did above (view r) none c.args.capacity c.args.budget (capacity_fits most.rules c.args.capacity same most.some most.few) c.in_ok-steps.steps s
     (ap (λ n. settle above n book c.args.budget) (sym same) ∙ z) in
     let w = c.settle.new.self in
     let rules : length s.table ≡ length c.rules.result.now = sym (ap length (c.rules.ensures.value ∙ ap (λ (t : Table). rules_of t) c.table.ensures)) in
     let lines : length book + length s.added ≡ length c.equations.result.now + length c.lines.result.now =
     ap₂ (λ m n. m + n) (sym (ap length c.equations.ensures.value)) (derivations-length (lines_of w) (chain_of w) ∙ sym (ap length c.lines.ensures)) in
-    subst (λ (a : Reply). Did (view r) (Settle above c.args.capacity c.args.budget) a (contents_of book true s)) (ap₂ (λ m n. Counted m n c.in-ok-steps.steps) rules lines) done
+    subst (λ (a : Reply). Did (view r) (Settle above c.args.capacity c.args.budget) a (contents_of book true s)) (ap₂ (λ m n. Counted m n c.in_ok-steps.steps) rules lines) done

@@ -16,8 +16,8 @@ returns c =
     let g = c.args.self.now in
     let a = c.args.load.now in
     let s = held g.workings in
-    let r = c.in-ok-reduced.reduced in
-    let w = placed_way s.table _ c.args.budget a 1 r _ (c.rules.ensures.value ∙ ap (λ (t : Table). rules_of t) c.table.ensures) c.reduce.ensures.is c.in-ok-reduced.ensures in
+    let r = c.in_ok-reduced.reduced in
+    let w = placed_way s.table _ c.args.budget a 1 r _ (c.rules.ensures.value ∙ ap (λ (t : Table). rules_of t) c.table.ensures) c.reduce.ensures.is c.in_ok-reduced.ensures in
     let on = c.if-not-self.false in
     record {
       did = standard_did (view g) s (ap (λ b. sheet_if b s) on) a c.args.budget r w;
