@@ -1,5 +1,5 @@
 -- A reduction that is answered makes the steps of its trail.
-use Rattle.std.proofs.Common.{◌≡◌, ℕ, suc, List, [], ◌∷◌, length, IfOk, Ok, Err, Result, refl, ap, ◌∙◌}
+use Rattle.std.proofs.Common.{◌≡◌, ℕ, suc, List, ◌∷◌, length, IfOk, Ok, Err, Result, refl, ap, ◌∙◌}
 use Rattle.loads.specs.declared.Load.{Load}
 use Rattle.loads.specs.Answers.{◌>>=◌}
 use Rattle.worksheet.specs.declared.rule.Rule.{Rule}

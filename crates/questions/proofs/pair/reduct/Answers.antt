@@ -1,4 +1,4 @@
-use Rattle.std.proofs.Common.{◌≡◌, true, Ok, Err, sym, ap, ◌∙◌, arith}
+use Rattle.std.proofs.Common.{◌≡◌, true, sym, ap, ◌∙◌}
 use Rattle.loads.specs.declared.Load.{Load}
 use Rattle.loads.specs.Loads.{shared}
 use Rattle.loads.specs.Tests.{contains}
