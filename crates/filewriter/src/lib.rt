@@ -1,4 +1,6 @@
 // Writing a swap file into a buffer of the caller's.
+#![tactic(auto)]
+
 mod chain_record;
 mod equation_record;
 pub mod fault;

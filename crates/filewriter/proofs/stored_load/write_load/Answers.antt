@@ -5,8 +5,8 @@ use Rattle.filewriter.specs.Putting.{put}
 use Rattle.filewriter.proofs.Puts.{counts-rest, counts-none, put_rest}
 use Rattle.filewriter.proofs.stored_load.write_load.Goals as goal
 
-pub write-count-place-requires : goal.write-count-place-requires
-write-count-place-requires c =
+pub write_count-place-requires : goal.write_count-place-requires
+write_count-place-requires c =
     let l = c.loop-i in
     let x = c.args.load.now in
     let one = ap length (counts-rest x.counts l.i (omega (arith, long x))) ∙ length-append (count_bytes (get_or x.counts l.i 0)) _ in
@@ -19,8 +19,8 @@ loop-i-preserved c =
     let n = c.count.result in
     let rest = counts_bytes (drop (l.i + 1) x.counts) in
     let one : counts_bytes (drop l.i x.counts) ≡ count_bytes n ++ rest = counts-rest x.counts l.i (omega (arith, long x)) ∙ ap (λ k. count_bytes k ++ rest) (sym c.count.ensures) in
-    let wrote = c.write-count-place.ensures in
-    (omega (arith, wrote.after, ap length one ∙ length-append (count_bytes n) rest, l.invariant.0), put_rest l.out c.write-count-place.new.out l.place c.write-count-place.result _ (count_bytes n) rest one wrote.bytes wrote.after ∙ l.invariant.1)
+    let wrote = c.write_count-place.ensures in
+    (omega (arith, wrote.after, ap length one ∙ length-append (count_bytes n) rest, l.invariant.0), put_rest l.out c.write_count-place.new.out l.place c.write_count-place.result _ (count_bytes n) rest one wrote.bytes wrote.after ∙ l.invariant.1)
 
 pub returns : goal.returns
 unfolding put

@@ -2,8 +2,8 @@ use Rattle.std.proofs.Common.{length, ap, ◌∙◌, arith, length-append}
 use Rattle.filewriter.proofs.Puts.{row-rest, row-none}
 use Rattle.filewriter.proofs.written.total.Goals as goal
 
-pub overflow-add-sum : goal.overflow-add-sum
-overflow-add-sum g c = record { fits = omega (arith, c.size-sum.ensures.bound, c.loop-x.invariant.1) }
+pub overflow_add-sum : goal.overflow_add-sum
+overflow_add-sum g c = record { fits = omega (arith, c.size-sum.ensures.bound, c.loop-x.invariant.1) }
 
 pub loop-x-preserved : goal.loop-x-preserved
 loop-x-preserved g c =

@@ -6,5 +6,5 @@ use Rattle.filewriter.proofs.rule_record.RuleWritten.size.Goals as goal
 pub returns : goal.returns
 returns c =
     let x = c.args.self.now in
-    let sides = c.sides-size.ensures in
+    let sides = c.sides_size.ensures in
     record { value = omega (arith, length-append (sides_bytes x.left x.right) (number_bytes x.line), sides.value); bound = omega (arith, sides.bound) }

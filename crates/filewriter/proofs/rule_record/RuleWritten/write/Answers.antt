@@ -4,27 +4,27 @@ use Rattle.swapfile.specs.Sides.{sides_bytes}
 use Rattle.filewriter.proofs.Puts.{put_then, put_long}
 use Rattle.filewriter.proofs.rule_record.RuleWritten.write.Goals as goal
 
-pub write-sides-after-requires : goal.write-sides-after-requires
-write-sides-after-requires c = let x = c.args.self.now in omega (arith, length-append (sides_bytes x.left x.right) (number_bytes x.line))
+pub write_sides-after-requires : goal.write_sides-after-requires
+write_sides-after-requires c = let x = c.args.self.now in omega (arith, length-append (sides_bytes x.left x.right) (number_bytes x.line))
 
-pub write-number-requires : goal.write-number-requires
-write-number-requires c =
+pub write_number-requires : goal.write_number-requires
+write_number-requires c =
     let x = c.args.self.now in
     let sides = sides_bytes x.left x.right in
-    let one = c.write-sides-after.ensures in
+    let one = c.write_sides-after.ensures in
     omega (arith, length-append sides (number_bytes x.line), one.after, ap length one.bytes ∙ put_long c.args.out.now c.args.at sides)
 
-pub overflow-add-result : goal.overflow-add-result
-overflow-add-result c =
+pub overflow_add-result : goal.overflow_add-result
+overflow_add-result c =
     let x = c.args.self.now in
-    record { fits = omega (arith, length-append (sides_bytes x.left x.right) (number_bytes x.line), c.write-sides-after.ensures.after) }
+    record { fits = omega (arith, length-append (sides_bytes x.left x.right) (number_bytes x.line), c.write_sides-after.ensures.after) }
 
 pub returns : goal.returns
 returns c =
     let x = c.args.self.now in
     let sides = sides_bytes x.left x.right in
-    let one = c.write-sides-after.ensures in
+    let one = c.write_sides-after.ensures in
     record {
       after = omega (arith, length-append sides (number_bytes x.line), one.after);
-      bytes = put_then c.args.out.now c.write-sides-after.new.out c.write-number.new.out c.args.at c.write-sides-after.result sides (number_bytes x.line) one.bytes one.after c.write-number.ensures;
+      bytes = put_then c.args.out.now c.write_sides-after.new.out c.write_number.new.out c.args.at c.write_sides-after.result sides (number_bytes x.line) one.bytes one.after c.write_number.ensures;
     }
