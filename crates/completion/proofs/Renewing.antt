@@ -10,16 +10,13 @@ use Rattle.worksheet.specs.Derivations.{Derivation}
 use Rattle.rewriting.specs.declared.reduce.Reduced.{Reduced}
 use Rattle.rewriting.specs.declared.reduce.StepFault.{StepFault}
 use Rattle.rewriting.specs.Reducing.{fitting, search, Way, reduce, counted, told}
-use Rattle.questions.specs.declared.placed.Placed.{Placed}
 use Rattle.questions.specs.declared.question.Fork.{Fork}
 use Rattle.questions.specs.Placed.{placed}
 use Rattle.questions.specs.Asking.{reduce_at, way_of, parting_of, fork_of}
 use Rattle.questions.proofs.Walking.{reduce_walked}
 use Rattle.tables.specs.Trails.{trail}
-use Rattle.completion.specs.declared.fault.RoundFault.{RoundFault}
 use Rattle.completion.specs.declared.fault.RoundFault.TheVariants.{Step, NoRoom}
 use Rattle.completion.specs.declared.found.Found.{Found}
-use Rattle.completion.specs.declared.turn.Turn.{Turn}
 use Rattle.completion.specs.declared.turn.Turn.TheVariants.{Again}
 use Rattle.completion.specs.Room.{roomy}
 use Rattle.completion.specs.States.{State}

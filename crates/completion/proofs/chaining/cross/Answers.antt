@@ -1,4 +1,4 @@
-use Rattle.std.proofs.Common.{◌≡◌, length, sym, ap, ◌∙◌, subst}
+use Rattle.std.proofs.Common.{length, sym, ap, ◌∙◌, subst}
 use Rattle.tables.proofs.Signs.{cited_ahead, cited_back}
 use Rattle.questions.specs.Questions.{Cited}
 use Rattle.completion.specs.Adding.{between}

@@ -1,4 +1,4 @@
-use Rattle.std.proofs.Common.{◌≡◌, length, sym, ap, ◌∙◌}
+use Rattle.std.proofs.Common.{ap}
 use Rattle.tables.specs.Rows.{rules_of}
 use Rattle.completion.specs.Adding.{between}
 use Rattle.completion.proofs.Rows.{chain-written}

@@ -19,14 +19,14 @@ returns-then-kept-capacity g c =
     let full = fork_full above c.args.capacity.now.rules c.args.equations c.args.fork.now h s c.oriented-fork.ensures (omega arith) in
     record { value = refused_value s _ (Full h.question.place) full; after = refused_leaves s _ (Full h.question.place) s full refl }
 
-pub returns-then-not-has-room : goal.returns-then-not-has-room
-returns-then-not-has-room g c =
+pub returns-then-not-has_room : goal.returns-then-not-has_room
+returns-then-not-has_room g c =
     let above = g.O.Order.above c.args.order.now in
     let s = held c.args.self.now in
     let f = c.args.fork.now in
     let h = c.oriented-fork.result in
     let counted = oriented-counted above s.table f h c.oriented-fork.ensures c.requires.counted in
-    let none = derived-room s.added s.table h c.chain-length.result counted c.chain-length.ensures ∙ sym c.if-not-has-room.ensures in
+    let none = derived-room s.added s.table h c.chain_length.result counted c.chain_length.ensures ∙ sym c.if-not-has_room.ensures in
     let out = fork_no_room above c.args.capacity.now.rules c.args.equations f h s c.oriented-fork.ensures (omega arith) none in
     record { value = refused_value s _ (NoRoom h.question.place) out; after = refused_leaves s _ (NoRoom h.question.place) s out refl }
 
@@ -40,7 +40,7 @@ note-requires g c =
     record {
       counted = counted;
       cited = oriented_cited above s.table f h c.oriented-fork.ensures c.requires.cited;
-      room = derived-room s.added s.table h c.chain-length.result counted c.chain-length.ensures ∙ sym c.if-not-has-room.ensures;
+      room = derived-room s.added s.table h c.chain_length.result counted c.chain_length.ensures ∙ sym c.if-not-has_room.ensures;
     }
 
 pub returns : goal.returns
@@ -51,7 +51,7 @@ returns g c =
     let h = c.oriented-fork.result in
     let w = c.note.new.self in
     let counted = oriented-counted above s.table f h c.oriented-fork.ensures c.requires.counted in
-    let room = derived-room s.added s.table h c.chain-length.result counted c.chain-length.ensures ∙ sym c.if-not-has-room.ensures in
+    let room = derived-room s.added s.table h c.chain_length.result counted c.chain_length.ensures ∙ sym c.if-not-has_room.ensures in
     let fewer : length (without h.first.end s.table) < c.args.capacity.now.rules = omega arith in
     let more : length (held w).added ≡ length s.added + 1 = ap length c.note.ensures.added ∙ length_push s.added (derived (parting_of s.table h)) in
     let added = fork_added above c.args.capacity.now.rules c.args.equations f h s c.oriented-fork.ensures fewer room in

@@ -3,8 +3,8 @@ use Rattle.worksheet.specs.Derivations.{lengths}
 use Rattle.completion.proofs.Chains.{lengths_more, lengths_within}
 use Rattle.completion.proofs.workings.Workings.chain_start.Goals as goal
 
-pub overflow-add-start : goal.overflow-add-start
-overflow-add-start c =
+pub overflow_add-start : goal.overflow_add-start
+overflow_add-start c =
     let g = c.args.self.now in
     let l = c.index-line.result.now in
     let h : c.loop-i.i < length (vec_items g.lines) = search rules in

@@ -14,15 +14,15 @@ use Rattle.completion.proofs.Rooms.{added-length, derived-room}
 use Rattle.completion.proofs.Renewing.{told_at, renewal-counted, change_no_room, change_made, change-left}
 use Rattle.completion.proofs.workings.Workings.change.Goals as goal
 
-pub returns-then-not-has-room : goal.returns-then-not-has-room
-returns-then-not-has-room c =
+pub returns-then-not-has_room : goal.returns-then-not-has_room
+returns-then-not-has_room c =
     let s = held c.args.self.now in
     let f = c.args.found.now in
     let x = c.in_ok-reduced.reduced in
     let h = c.renewal-fork.result in
     let is = told_at (right_place f.place) s.table c.rules.result.now c.args.budget f.rule.right x c.reduce.result c.in_ok-reduced.ensures c.reduce.ensures.is c.rules.ensures.value in
     let counted = renewal-counted c.args.equations c.args.budget f s x h is c.renewal-fork.ensures in
-    let none = derived-room s.added s.table h c.chain-length.result counted c.chain-length.ensures ∙ sym c.if-not-has-room.ensures in
+    let none = derived-room s.added s.table h c.chain_length.result counted c.chain_length.ensures ∙ sym c.if-not-has_room.ensures in
     let out = change_no_room c.args.equations c.args.budget f s x h is c.renewal-fork.ensures none in
     record { value = refused_value s _ (NoRoom (right_place f.place)) out; after = refused_leaves s _ (NoRoom (right_place f.place)) s out refl }
 
@@ -37,7 +37,7 @@ note-requires c =
     record {
       counted = counted;
       cited = subst (λ (k : Fork). Cited k.question.bridge) (sym c.renewal-fork.ensures) (citable-at s.table f.place f.rule c.requires.within c.requires.stands c.args.self.now.table.cited);
-      room = derived-room s.added s.table h c.chain-length.result counted c.chain-length.ensures ∙ sym c.if-not-has-room.ensures;
+      room = derived-room s.added s.table h c.chain_length.result counted c.chain_length.ensures ∙ sym c.if-not-has_room.ensures;
     }
 
 pub returns : goal.returns
@@ -49,7 +49,7 @@ returns c =
     let w = c.note.new.self in
     let is = told_at (right_place f.place) s.table c.rules.result.now c.args.budget f.rule.right x c.reduce.result c.in_ok-reduced.ensures c.reduce.ensures.is c.rules.ensures.value in
     let counted = renewal-counted c.args.equations c.args.budget f s x h is c.renewal-fork.ensures in
-    let room = derived-room s.added s.table h c.chain-length.result counted c.chain-length.ensures ∙ sym c.if-not-has-room.ensures in
+    let room = derived-room s.added s.table h c.chain_length.result counted c.chain_length.ensures ∙ sym c.if-not-has_room.ensures in
     let made = change_made c.args.equations c.args.budget f s x h is c.renewal-fork.ensures room in
     let more : length (held w).added ≡ length s.added + 1 = ap length c.note.ensures.added ∙ length_push s.added (derived (parting_of s.table h)) in
     record {

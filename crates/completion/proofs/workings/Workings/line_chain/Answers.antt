@@ -1,4 +1,4 @@
-use Rattle.std.proofs.Common.{◌≡◌, ◌+◌, ◌<◌, ◌≤◌, length, vec_items, vec_len, sym, arith, rules}
+use Rattle.std.proofs.Common.{◌+◌, ◌<◌, ◌≤◌, length, vec_items, vec_len, sym, arith, rules}
 use Rattle.completion.proofs.Chains.{own_chain, no_chain}
 use Rattle.completion.proofs.workings.Workings.line_chain.Goals as goal
 
@@ -9,14 +9,14 @@ returns-then-place-len c =
     sym (no_chain (vec_items g.lines) (vec_items g.chain) c.args.place p)
 
 -- the line's numbers end within the row
-within : (c : goal.After-struct-known·1) → c.chain-start-start.result + c.index-line.result.now.length ≤ vec_len c.args.self.now.chain
-within c = let p : c.args.place < vec_len c.args.self.now.lines = search rules in c.chain-start-start.ensures.within c.index-line.result.now p c.index-line.ensures
+within : (c : goal.After-struct_known-1) → c.chain_start-start.result + c.index-line.result.now.length ≤ vec_len c.args.self.now.chain
+within c = let p : c.args.place < vec_len c.args.self.now.lines = search rules in c.chain_start-start.ensures.within c.index-line.result.now p c.index-line.ensures
 
-pub overflow-add-end : goal.overflow-add-end
-overflow-add-end c = record { fits = omega (arith, within c, c.args.self.now.few) }
+pub overflow_add-end : goal.overflow_add-end
+overflow_add-end c = record { fits = omega (arith, within c, c.args.self.now.few) }
 
 pub returns : goal.returns
 returns c =
     let g = c.args.self.now in
     let p : c.args.place < length (vec_items g.lines) = search rules in
-    own_chain (vec_items g.lines) c.args.place c.index-line.result.now p c.index-line.ensures (vec_items g.chain) c.deref.result.now c.chain-start-start.result c.chain-start-start.ensures.is c.deref.ensures.value
+    own_chain (vec_items g.lines) c.args.place c.index-line.result.now p c.index-line.ensures (vec_items g.chain) c.deref.result.now c.chain_start-start.result c.chain_start-start.ensures.is c.deref.ensures.value

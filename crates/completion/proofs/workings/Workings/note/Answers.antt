@@ -1,4 +1,4 @@
-use Rattle.std.proofs.Common.{◌≡◌, length, refl, ap, ◌∙◌, ap₂, arith}
+use Rattle.std.proofs.Common.{length, refl, ap, ◌∙◌, ap₂, arith}
 use Rattle.worksheet.specs.Derivations.{derivations, lengths}
 use Rattle.tables.specs.Rows.{rules_of}
 use Rattle.questions.specs.Asking.{parting_of}
@@ -8,36 +8,36 @@ use Rattle.completion.proofs.Deriving.{derivations_more, lengths-push}
 use Rattle.completion.proofs.Rooms.{roomy_parts, derived-length}
 use Rattle.completion.proofs.workings.Workings.note.Goals as goal
 
-pub push-chain-requires : goal.push-chain-requires
-push-chain-requires c =
+pub push_chain-requires : goal.push_chain-requires
+push_chain-requires c =
     let w = c.args.self.now in
     let f = c.args.fork.now in
     let long = derived-length (rules_of w.table) f c.requires.counted in
     let room = roomy_parts w (length (derived (parting_of (rules_of w.table) f)).chain) c.requires.room in
     record { counted = c.requires.counted; cited = c.requires.cited; room = omega arith }
 
-pub overflow-cast-chain-length : goal.overflow-cast-chain-length
-overflow-cast-chain-length c =
+pub overflow_cast-chain_length : goal.overflow_cast-chain_length
+overflow_cast-chain_length c =
     let w = c.args.self.now in
     let f = c.args.fork.now in
     let long = derived-length (rules_of w.table) f c.requires.counted in
     let room = roomy_parts w (length (derived (parting_of (rules_of w.table) f)).chain) c.requires.room in
     record { fits = omega arith }
 
-pub push-reserved-requires : goal.push-reserved-requires
-push-reserved-requires c =
+pub push_reserved-requires : goal.push_reserved-requires
+push_reserved-requires c =
     let w = c.args.self.now in
     let room = roomy_parts w (length (derived (parting_of (rules_of w.table) c.args.fork.now)).chain) c.requires.room in
     omega arith
 
-pub invariant-of-self : goal.invariant-of-self
-invariant-of-self c =
+pub invariant_of-self : goal.invariant_of-self
+invariant_of-self c =
     let w = c.args.self.now in
     let f = c.args.fork.now in
     let long = derived-length (rules_of w.table) f c.requires.counted in
     let room = roomy_parts w (length (derived (parting_of (rules_of w.table) f)).chain) c.requires.room in
-    let sum = ap lengths c.push-reserved.ensures.items ∙ lengths-push (lines_of w) _ in
-    ((omega arith, omega arith), ((omega arith, omega arith), (omega (arith, sum), tt)))
+    let sum = ap lengths c.push_reserved.ensures.items ∙ lengths-push (lines_of w) _ in
+    record { room = (omega arith, omega arith); few = (omega arith, omega arith); summed = omega (arith, sum) }
 
 pub returns : goal.returns
 returns c =
@@ -46,5 +46,5 @@ returns c =
     let long = derived-length (rules_of w.table) f c.requires.counted in
     record {
       table = refl;
-      added = ap₂ derivations c.push-reserved.ensures.items c.push-chain.ensures.items ∙ derivations_more (lines_of w) _ (chain_of w) (derived (parting_of (rules_of w.table) f)).chain (omega arith) (omega arith);
+      added = ap₂ derivations c.push_reserved.ensures.items c.push_chain.ensures.items ∙ derivations_more (lines_of w) _ (chain_of w) (derived (parting_of (rules_of w.table) f)).chain (omega arith) (omega arith);
     }

@@ -1,4 +1,4 @@
-use Rattle.std.proofs.Common.{◌≡◌, ◌≤◌, length, Ok, sym, ap, ◌∙◌, arith}
+use Rattle.std.proofs.Common.{◌≤◌, length, Ok, sym, ap, ◌∙◌, arith}
 use Rattle.tables.specs.Rows.{rules_of, equations_of}
 use Rattle.questions.proofs.Partings.{told_of}
 use Rattle.completion.specs.States.{held, answered, leaves}

@@ -42,7 +42,7 @@ returns-in-Settled g c =
     let v = c.round.new.self in
     let was = was_answered (held w) (round above c.args.capacity.now.rules (equations_of c.args.book.now) c.loop-turn.left (held w)) (Settled c.in-Settled.rest) (held v) (ap Ok (sym c.in-Settled.is) ∙ c.in-Ok.ensures.value) c.in-Ok.ensures.after in
     let all = settle_settled above c.args.capacity.now.rules (equations_of c.args.book.now) c.args.budget (512 - vec_len w.lines) c.loop-turn.left (held w) c.loop-turn.invariant c.in-Settled.rest (held v) was in
-    record { value = ap Ok c.saturating-sub.ensures ∙ answered_value blank _ _ _ all; after = answered-leaves blank _ _ _ (held v) all refl }
+    record { value = ap Ok c.saturating_sub.ensures ∙ answered_value blank _ _ _ all; after = answered-leaves blank _ _ _ (held v) all refl }
 
 pub returns-in-Err : goal.returns-in-Err
 returns-in-Err g c =
