@@ -1,6 +1,5 @@
 -- What is told of a refusal.
 use Rattle.std.specs.Prelude.{ℕ, List, ◌++◌, Some, None, codes, decimal, Option}
-use Rattle.worksheet.specs.declared.fault.ReplayFault.{ReplayFault}
 use Rattle.worksheet.specs.declared.fault.SwapFault.{SwapFault}
 use Rattle.worksheet.specs.declared.fault.SwapFault.TheVariants.{NoLine, Lacks, Overflow}
 use Rattle.rewriting.specs.declared.reduce.StepFault.{StepFault}

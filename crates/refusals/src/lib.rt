@@ -1,4 +1,6 @@
 // Why a call is refused, and what is told of it.
+#![tactic(auto)]
+
 ghost use Rattle.std.specs.Prelude.{◌≡◌, Some};
 ghost use Rattle.refusals.specs.Refusals.{as_refusal, plain, told, word, sentence};
 ghost use Rattle.refusals.specs.declared.Refusal.TheVariants.{Replay, Step};
