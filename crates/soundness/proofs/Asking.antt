@@ -1,20 +1,18 @@
 -- Questions asked of a table: what an answered row of them says.
-use Rattle.std.proofs.Common.{◌≡◌, ℕ, ◌+◌, ◌-◌, ◌≤◌, Bool, true, false, List, [], ◌∷◌, ◌++◌, length, ℤ, None, Ok, Result, sym, refl, ap, ◌∙◌, subst, arith}
+use Rattle.std.proofs.Common.{◌≡◌, ℕ, ◌+◌, ◌-◌, ◌≤◌, Bool, true, false, List, [], ◌∷◌, length, None, Ok, Result, sym, refl, ◌∙◌, subst, arith}
 use Rattle.std.specs.List.{AllByRecursion as All}
 use Rattle.std.proofs.lemmas.Bool.{false≢true}
-use Rattle.loads.specs.declared.Load.{Load}
 use Rattle.loads.specs.Tests.{alike, fits}
 use Rattle.loads.proofs.Deciding.{alike_decides}
 use Rattle.worksheet.specs.declared.equation.Equation.{Equation}
 use Rattle.worksheet.specs.declared.rule.Rule.{Rule}
 use Rattle.rewriting.specs.declared.reduce.StepFault.{StepFault}
-use Rattle.rewriting.specs.Reducing.{fitting, Way}
+use Rattle.rewriting.specs.Reducing.{fitting}
 use Rattle.questions.specs.declared.placed.Placed.{Placed}
 use Rattle.questions.specs.declared.question.Question.{Question}
 use Rattle.questions.specs.Topics.{Topic}
 use Rattle.questions.specs.Questions.{form}
 use Rattle.questions.specs.Asking.{Parting, Ending, met, apart, ending, ask, go_on, ask_all}
-use Rattle.tables.specs.Trails.{forward, undo}
 use Rattle.completion.specs.Adding.{between, derived}
 use Rattle.soundness.specs.Sheets.{Claimed}
 use Rattle.soundness.proofs.Answering.{ok_same, went, unmarked}

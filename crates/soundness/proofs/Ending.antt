@@ -1,11 +1,10 @@
 -- What the rounds end with.
-use Rattle.std.proofs.Common.{◌≡◌, ℕ, zero, suc, ◌+◌, ◌-◌, ◌≤◌, ltb, List, [], ◌∷◌, ◌++◌, length, Some, None, Ok, Err, Option, Result, sym, refl, ap, ◌∙◌, subst, arith}
+use Rattle.std.proofs.Common.{◌≡◌, ℕ, zero, suc, ◌+◌, ◌-◌, ◌≤◌, ltb, List, [], ◌∷◌, ◌++◌, length, Some, None, Ok, Option, Result, sym, refl, subst, arith}
 use Rattle.std.specs.List.{AllByRecursion as All}
-use Rattle.loads.specs.Answers.{◌>>=◌, check}
+use Rattle.loads.specs.Answers.{check}
 use Rattle.orders.specs.Laws.{Relation, Admissible}
 use Rattle.worksheet.specs.declared.equation.Equation.{Equation}
 use Rattle.worksheet.specs.declared.rule.Rule.{Rule}
-use Rattle.worksheet.specs.Derivations.{Derivation}
 use Rattle.rewriting.specs.Reducing.{fitting}
 use Rattle.tables.specs.Placing.{without, enter}
 use Rattle.questions.specs.Topics.{topics}
@@ -18,14 +17,14 @@ use Rattle.completion.specs.declared.turn.Turn.TheVariants.{Settled, Again}
 use Rattle.completion.specs.States.{State, blank}
 use Rattle.completion.specs.Room.{roomy}
 use Rattle.completion.specs.Adding.{derived, oriented, rule_of, admit}
-use Rattle.completion.specs.Changing.{unfinished, rederived}
-use Rattle.completion.specs.Rounds.{Wish, nothing, a_line, add, change, proceed, wish, note, round, no_more, rounds, settle}
+use Rattle.completion.specs.Changing.{unfinished}
+use Rattle.completion.specs.Rounds.{Wish, nothing, a_line, add, change, proceed, wish, note, no_more, rounds, settle}
 use Rattle.soundness.specs.Sheets.{Small, lines}
 use Rattle.soundness.proofs.Answering.{err_not_ok, ok_same, went, unmarked}
 use Rattle.soundness.proofs.Reducing.{reduces_so}
 use Rattle.soundness.proofs.Lines.{lines_fit}
 use Rattle.soundness.proofs.Ordering.{unfinished-at, unfinished-none}
-use Rattle.soundness.proofs.Asking.{AllMet, Meets, Told, all_told}
+use Rattle.soundness.proofs.Asking.{AllMet, Told, all_told}
 use Rattle.soundness.proofs.Bridging.{topics-chained}
 use Rattle.soundness.proofs.Keeping.{Kept, oriented_ready, added_kept, changed_kept}
 

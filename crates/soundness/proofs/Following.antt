@@ -1,8 +1,7 @@
 -- To follow a chain of line numbers, as a relation: what replay does, chains joined and turned round, more lines, and what the book joins.
-use Rattle.std.proofs.Common.{◌≡◌, ℕ, zero, suc, ◌+◌, true, List, [], ◌∷◌, ◌++◌, length, ℤ, pos, negsuc, neg_ℤ, Some, None, Ok, Option, sym, refl, ap, ◌∙◌, subst, subst₂, arith}
+use Rattle.std.proofs.Common.{◌≡◌, ℕ, zero, suc, ◌+◌, true, List, [], ◌∷◌, ◌++◌, length, ℤ, pos, negsuc, neg_ℤ, Some, None, Ok, Option, sym, refl, ap, ◌∙◌, subst, subst₂}
 use Rattle.std.specs.List.{AllByRecursion as All}
 use Rattle.loads.specs.declared.Load.{Load}
-use Rattle.loads.specs.Answers.{◌>>=◌}
 use Rattle.loads.specs.Tests.{contains, fits}
 use Rattle.loads.specs.Exchange.{swapped, exchanged}
 use Rattle.loads.proofs.Deciding.{contains_decides}
@@ -10,7 +9,7 @@ use Rattle.loads.proofs.Exchanging.{exchanged_made}
 use Rattle.worksheet.specs.declared.equation.Equation.{Equation}
 use Rattle.worksheet.specs.declared.fault.SwapFault.TheVariants.{NoLine}
 use Rattle.worksheet.specs.Claims.{turned, nth, turned_about, named}
-use Rattle.worksheet.specs.Replay.{as_swap_fault, swap, at_step, replay}
+use Rattle.worksheet.specs.Replay.{as_swap_fault, at_step, replay}
 use Rattle.tables.specs.Trails.{undo}
 use Rattle.rewriting.specs.Swaps.{Applies, none, Joined}
 use Rattle.rewriting.proofs.Moves.{then, context, applies_back, joined-plus, joined_back}

@@ -1,9 +1,8 @@
 -- What holds of the table and the lines between rounds, and is kept by each of them.
-use Rattle.std.proofs.Common.{◌≡◌, ℕ, ◌+◌, ◌-◌, ◌≤◌, Bool, true, false, cond, List, [], ◌∷◌, ◌++◌, length, set, pos, neg_ℤ, Some, None, Ok, sym, refl, ap, ◌∙◌, subst, inl, inr, arith}
+use Rattle.std.proofs.Common.{◌≡◌, ℕ, ◌+◌, Bool, true, false, cond, List, [], ◌∷◌, ◌++◌, length, set, pos, Some, None, refl, subst, inl, inr}
 use Rattle.std.specs.List.{AllByRecursion as All}
 use Rattle.std.proofs.ByRecursion.{All-set, All-weaker, all_kept_by}
 use Rattle.std.proofs.lemmas.Bool.{both_ways}
-use Rattle.loads.specs.declared.Load.{Load}
 use Rattle.loads.specs.Tests.{contains, fits}
 use Rattle.orders.specs.Laws.{Relation, Admissible, ExactlyOne, is_first, is_second, is_third}
 use Rattle.worksheet.specs.declared.equation.Equation.{Equation}
@@ -14,11 +13,9 @@ use Rattle.rewriting.specs.Swaps.{equation_of, equations, In}
 use Rattle.rewriting.specs.Settled.{Falls}
 use Rattle.rewriting.specs.Reducing.{fitting, Way}
 use Rattle.rewriting.proofs.Uniqueness.{reduces_falls}
-use Rattle.tables.specs.Trails.{forward, undo}
 use Rattle.tables.specs.Placing.{without, enter}
-use Rattle.questions.specs.Questions.{turned_bridge}
 use Rattle.questions.specs.Asking.{Parting, turned_parting}
-use Rattle.completion.specs.Adding.{between, derived, oriented, rule_of}
+use Rattle.completion.specs.Adding.{derived, oriented, rule_of}
 use Rattle.completion.specs.Changing.{rederived}
 use Rattle.soundness.specs.Sheets.{Small, lines, LinesReplay, Claimed}
 use Rattle.soundness.proofs.Following.{Follows, pass, follows_back, nth_all, named_all}

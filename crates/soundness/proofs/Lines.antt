@@ -1,5 +1,5 @@
 -- The worksheet: every line replays, citing only earlier ones, and so follows from the book.
-use Rattle.std.proofs.Common.{◌≡◌, ℕ, suc, ◌+◌, true, List, [], ◌∷◌, ◌++◌, map, length, pos, Some, sym, refl, ap, ◌∙◌, subst, inl, inr, append_assoc, append-nil, arith, length-append}
+use Rattle.std.proofs.Common.{◌≡◌, suc, ◌+◌, true, List, [], ◌∷◌, ◌++◌, map, length, pos, Some, sym, refl, ap, ◌∙◌, subst, inl, inr, append_assoc, append-nil, arith, length-append}
 use lib.ListN.{length-map}
 use Rattle.std.specs.List.{AllByRecursion as All}
 use Rattle.std.proofs.ByRecursion.{All-push}
@@ -8,7 +8,7 @@ use Rattle.loads.specs.Tests.{fits}
 use Rattle.loads.proofs.Algebra.{same, counts}
 use Rattle.worksheet.specs.declared.equation.Equation.{Equation}
 use Rattle.worksheet.specs.declared.rule.Rule.{Rule}
-use Rattle.worksheet.specs.Claims.{nth, named}
+use Rattle.worksheet.specs.Claims.{named}
 use Rattle.worksheet.specs.Derivations.{Derivation}
 use Rattle.rewriting.specs.Swaps.{equation_of, In, Applies, none, link}
 use Rattle.soundness.specs.Sheets.{Small, lines, LinesReplay, FollowsFrom, Claimed}

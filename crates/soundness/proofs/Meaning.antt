@@ -1,24 +1,23 @@
 -- What the rounds end with is a settled table in the sense of the theory.
-use Rattle.std.proofs.Common.{◌≡◌, ℕ, zero, suc, ◌+◌, ◌<◌, Bool, true, false, List, [], ◌∷◌, ◌++◌, length, pos, None, Ok, sym, refl, ap, ◌∙◌, subst, subst₂, inl, inr, arith}
+use Rattle.std.proofs.Common.{◌≡◌, ℕ, zero, suc, ◌+◌, ◌<◌, Bool, true, false, List, [], ◌∷◌, ◌++◌, length, pos, None, Ok, sym, refl, ap, subst, subst₂, inl, inr, arith}
 use Rattle.std.specs.List.{AllByRecursion as All}
 use Rattle.std.proofs.ByRecursion.{All-weaker}
 use Rattle.std.proofs.lemmas.Bool.{both_ways}
 use Rattle.loads.specs.declared.Load.{Load}
 use Rattle.loads.specs.Tests.{Contains, contains, Share, shares}
 use Rattle.loads.proofs.Deciding.{contains_decides, shares_decides}
-use Rattle.orders.specs.Laws.{Relation, Admissible}
+use Rattle.orders.specs.Laws.{Relation}
 use Rattle.worksheet.specs.declared.equation.Equation.{Equation}
 use Rattle.worksheet.specs.declared.rule.Rule.{Rule}
 use Rattle.rewriting.specs.Swaps.{equation_of, equations, In, Standard, Meet}
-use Rattle.rewriting.specs.Settled.{place, reduct, Settled}
+use Rattle.rewriting.specs.Settled.{place, reduct}
 use Rattle.rewriting.specs.Reducing.{fitting}
 use Rattle.rewriting.proofs.Moves.{joined_back}
 use Rattle.questions.specs.declared.question.Question.{Question}
-use Rattle.questions.specs.Topics.{Topic, entry, peak, entries, peaks_with, peaks, topics}
+use Rattle.questions.specs.Topics.{Topic, entry, peak, entries, peaks_with, peaks}
 use Rattle.questions.specs.Questions.{form}
 use Rattle.questions.specs.Asking.{Parting}
 use Rattle.completion.specs.States.{State}
-use Rattle.completion.specs.Rounds.{settle}
 use Rattle.soundness.specs.Sheets.{lines, FollowsFrom, Claimed}
 use Rattle.soundness.specs.Sound.{Sound, RoundsAreSound}
 use Rattle.soundness.proofs.Answering.{ok_same, went, unmarked}

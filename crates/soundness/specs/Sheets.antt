@@ -1,6 +1,5 @@
 -- When a worksheet shows what it claims.
 use Rattle.std.specs.Prelude.{◌≡◌, true, List, [], ◌∷◌, ◌++◌, map, pos, Some, Ok}
-use Rattle.std.specs.List.{AllByRecursion}
 use Rattle.loads.specs.Tests.{fits}
 use Rattle.worksheet.specs.declared.equation.Equation.{Equation}
 use Rattle.worksheet.specs.declared.rule.Rule.{Rule}

@@ -1,2 +1,4 @@
 // Why the rounds are right.
+#![tactic(auto)]
+
 pub mod theorems;
