@@ -5,12 +5,12 @@ use Rattle.records.proofs.Held.{held-some, held_none}
 use Rattle.filereader.proofs.Walking.{fill_goes, fill_stops, fill_ends, fill_leaves}
 use Rattle.filereader.proofs.window.Window.check_records.Goals as goal
 
-pub returns-then-too-few : goal.returns-then-too-few
-returns-then-too-few g c =
+pub returns-then-too_few : goal.returns-then-too_few
+returns-then-too_few g c =
     let s = c.args.self.now in
     let b = s.bytes.now in
     fill_stops g.R.Record.size b s.count c.loop.counter c.loop.at _ c.loop.invariant c.loop-test.true
-    (omega (arith, g.met.R.Record.enough b c.loop.at, ltb-true _ _ (sym c.if-too-few.ensures)))
+    (omega (arith, g.met.R.Record.enough b c.loop.at, ltb-true _ _ (sym c.if-too_few.ensures)))
 
 pub returns-in-None : goal.returns-in-None
 returns-in-None g c =

@@ -18,7 +18,7 @@ returns-in_err-found g c =
     let s = shown c.args.self.now in
     let none = sym (none-held g.R.Record.size s.bytes s.count s.start (held_none _ _ _ c.in_err-found.ensures)) in
     record {
-      read = c.from-residual.ensures ∙ ap (λ ps. option_map (found g.R.Record.size g.R.Record.item s.bytes) (nth ps 0)) none;
+      read = c.from_residual.ensures ∙ ap (λ ps. option_map (found g.R.Record.size g.R.Record.item s.bytes) (nth ps 0)) none;
       moved = ap (λ ps. behind g.R.Record.size s (nth ps 0)) none;
     }
 

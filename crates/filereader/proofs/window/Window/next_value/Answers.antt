@@ -18,10 +18,10 @@ returns-in_err-found g c =
     let same : t ≡ s = gone ∙ ap (λ ps. behind size s (nth ps 0)) none in
     let empty : values size value s ≡ [] = ap (map (value s.bytes)) none in
     record {
-      value = c.from-residual.ensures ∙ ap (λ vs. nth vs 0) (sym empty);
+      value = c.from_residual.ensures ∙ ap (λ vs. nth vs 0) (sym empty);
       moved = gone;
       values = ap (values size value) same ∙ empty ∙ ap (drop 1) (sym empty);
-      left = rw c.from-residual.ensures (omega (arith, ap (λ (x : Section). x.count) same));
+      left = rw c.from_residual.ensures (omega (arith, ap (λ (x : Section). x.count) same));
     }
 
 pub returns : goal.returns

@@ -8,8 +8,8 @@ use Rattle.filereader.proofs.window.Window.read_into.Goals as goal
 pub loop-value-init : goal.loop-value-init
 loop-value-init g c = (omega (arith, c.capacity.ensures, c.len.ensures), refl, refl)
 
-pub push-reserved-requires : goal.push-reserved-requires
-push-reserved-requires g c = omega (arith, c.in-Some.ensures.left)
+pub push_reserved-requires : goal.push_reserved-requires
+push_reserved-requires g c = omega (arith, c.in-Some.ensures.left)
 
 pub returns-then-capacity-len : goal.returns-then-capacity-len
 returns-then-capacity-len g c =
@@ -24,9 +24,9 @@ loop-value-preserved g c =
     let l = c.loop-value in
     let v = c.in-Some.value in
     let told = c.in-Some.ensures in
-    let pushed = c.push-reserved.ensures in
+    let pushed = c.push_reserved.ensures in
     let all = values g.R.Record.size g.R.Record.value (shown l.self) in
-    let rest = values g.R.Record.size g.R.Record.value (shown c.next-value.new.self) in
+    let rest = values g.R.Record.size g.R.Record.value (shown c.next_value.new.self) in
     let one : all ≡ v ∷ rest = first_of v all told.value ∙ ap (λ vs. v ∷ vs) (sym told.values) in (
       omega (arith, told.left, l.invariant.0, pushed.len, pushed.capacity),
       pushed.capacity ∙ l.invariant.1,
