@@ -1,5 +1,5 @@
 -- What an adopted file comes to, and that a settled register's file is adopted.
-use Rattle.std.proofs.Common.{◌≡◌, ℕ, ◌+◌, ◌-◌, ◌≤◌, List, map, length, ℤ, Ok, Result, sym, refl, ap, ◌∙◌, subst, ap₂, arith}
+use Rattle.std.proofs.Common.{◌≡◌, ℕ, ◌+◌, ◌-◌, ◌≤◌, List, map, length, ℤ, Ok, sym, refl, ap, ◌∙◌, subst, ap₂, arith}
 use Rattle.std.specs.List.{AllByRecursion as All}
 use Rattle.loads.specs.Answers.{marked}
 use Rattle.orders.specs.Laws.{Relation, Admissible}
@@ -19,7 +19,6 @@ use Rattle.soundness.proofs.Bridging.{topics-chained}
 use Rattle.soundness.proofs.Ending.{Finished, settle-finished}
 use Rattle.soundness.proofs.Meaning.{finished-sound}
 use Rattle.swapfile.specs.Content.{Content, content_of}
-use Rattle.adoption.specs.declared.fault.AdoptFault.{AdoptFault}
 use Rattle.adoption.specs.declared.fault.AdoptFault.TheVariants.{Worksheet, Table}
 use Rattle.adoption.specs.declared.fault.TableFault.TheVariants.{Step}
 use Rattle.adoption.specs.Worksheets.{own_equations, even_chains, lines_replay, worksheet_holds}
@@ -27,8 +26,8 @@ use Rattle.adoption.specs.Tables.{rules_claimed, rules_fall, table_reduced, rule
 use Rattle.adoption.specs.Adopting.{state_of, adopt, line_of, all_chains, content_of_state}
 use Rattle.adoption.specs.Theorems.{SmallLines, SettledBy, by_settle, by_adopt, AcceptedIsSound, SameRelation, WhatSettledIsAccepted, AdoptedIsWhatTheFileHas}
 use Rattle.adoption.proofs.Sheets.{own_so, so_own, lines_so, so_lines}
-use Rattle.adoption.proofs.Chains.{Remade, even_so, so_even, so_derived, same_claims, derived_small}
-use Rattle.adoption.proofs.Tables.{claimed_so, so_claimed, fall_so, so_fall, ReducedTable, table_so, so_table}
+use Rattle.adoption.proofs.Chains.{even_so, so_even, so_derived, same_claims, derived_small}
+use Rattle.adoption.proofs.Tables.{claimed_so, so_claimed, fall_so, so_fall, table_so, so_table}
 use Rattle.adoption.proofs.Asking.{so_asks}
 
 -- every condition on a file holds, and so much of the budget is left

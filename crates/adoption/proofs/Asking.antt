@@ -1,6 +1,5 @@
 -- Questions that all end in one load are answered wherever the budget allows their steps.
-use Rattle.std.proofs.Common.{◌≡◌, ℕ, ◌+◌, ◌-◌, ◌≤◌, true, List, [], ◌∷◌, length, Ok, sym, refl, ◌∙◌, arith}
-use Rattle.loads.specs.Tests.{alike}
+use Rattle.std.proofs.Common.{◌≡◌, ℕ, ◌+◌, ◌-◌, ◌≤◌, List, length, Ok, arith}
 use Rattle.loads.proofs.Deciding.{alike_decides}
 use Rattle.worksheet.specs.declared.rule.Rule.{Rule}
 use Rattle.questions.specs.declared.question.Question.{Question}

@@ -1,4 +1,6 @@
 // When the content of a file is taken over by an open register.
+#![tactic(auto)]
+
 pub mod equations;
 pub mod fault;
 pub mod lines;

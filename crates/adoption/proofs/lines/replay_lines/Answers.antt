@@ -3,26 +3,26 @@ use Rattle.std.proofs.lemmas.Result.{err_from_is_err_and}
 use Rattle.adoption.proofs.Loops.{lengths_next, replays_stop, replays_next, replays_end}
 use Rattle.adoption.proofs.lines.replay_lines.Goals as goal
 
-pub overflow-cast-length : goal.overflow-cast-length
-overflow-cast-length c =
+pub overflow_cast-length : goal.overflow_cast-length
+overflow_cast-length c =
     let room : length c.args.chain.now < 2 ^ 64 = search rules in
     record { fits = omega (arith, c.loop-i.invariant.0, lengths_next c.args.lines.now c.loop-i.i c.index-lines-i.result (omega arith) c.index-lines-i.is) }
 
-pub overflow-add-end : goal.overflow-add-end
-overflow-add-end c =
+pub overflow_add-end : goal.overflow_add-end
+overflow_add-end c =
     let room : length c.args.chain.now < 2 ^ 64 = search rules in
     record { fits = omega (arith, c.loop-i.invariant.0, lengths_next c.args.lines.now c.loop-i.i c.index-lines-i.result (omega arith) c.index-lines-i.is) }
 
-pub slice-bounds-check-line-end-in-loop-i : goal.slice-bounds-check-line-end-in-loop-i
-slice-bounds-check-line-end-in-loop-i c =
+pub slice_bounds-check_line-end-in-loop-i : goal.slice_bounds-check_line-end-in-loop-i
+slice_bounds-check_line-end-in-loop-i c =
     omega (arith, c.loop-i.invariant.0, lengths_next c.args.lines.now c.loop-i.i c.index-lines-i.result (omega arith) c.index-lines-i.is)
 
-pub returns-in_err-check-line : goal.returns-in_err-check-line
-returns-in_err-check-line c =
-    let p = err_from_is_err_and c.from-residual.result c.from-residual.ensures.1 in
+pub returns-in_err-check_line : goal.returns-in_err-check_line
+returns-in_err-check_line c =
+    let p = err_from_is_err_and c.from_residual.result c.from_residual.ensures.1 in
     let l = c.index-lines-i.result in
     rw (p.1, p.2) (sym (c.loop-i.invariant.1
-    ∙ replays_stop c.args.book.now c.args.lines.now c.args.chain.now c.loop-i.i c.loop-i.start l (omega arith) c.index-lines-i.is (c.loop-i.start + l.length - c.loop-i.start) (omega arith) _ c.in_err-check-line.ensures))
+    ∙ replays_stop c.args.book.now c.args.lines.now c.args.chain.now c.loop-i.i c.loop-i.start l (omega arith) c.index-lines-i.is (c.loop-i.start + l.length - c.loop-i.start) (omega arith) _ c.in_err-check_line.ensures))
 
 pub loop-i-preserved : goal.loop-i-preserved
 loop-i-preserved c =
@@ -30,7 +30,7 @@ loop-i-preserved c =
     let next = lengths_next c.args.lines.now c.loop-i.i l (omega arith) c.index-lines-i.is in (
       omega (arith, c.loop-i.invariant.0, next),
       c.loop-i.invariant.1
-          ∙ replays_next c.args.book.now c.args.lines.now c.args.chain.now c.loop-i.i c.loop-i.start l (omega arith) c.index-lines-i.is (c.loop-i.start + l.length - c.loop-i.start) (omega arith) tt c.in_ok-check-line.ensures,
+          ∙ replays_next c.args.book.now c.args.lines.now c.args.chain.now c.loop-i.i c.loop-i.start l (omega arith) c.index-lines-i.is (c.loop-i.start + l.length - c.loop-i.start) (omega arith) tt c.in_ok-check_line.ensures,
     )
 
 pub returns : goal.returns

@@ -1,5 +1,4 @@
 use Rattle.std.proofs.Common.{sym, ◌∙◌, arith}
-use Rattle.worksheet.specs.declared.rule.Rule.{Rule}
 use Rattle.adoption.specs.declared.fault.TableFault.TheVariants.{NotFalling}
 use Rattle.adoption.proofs.Loops.{each-end, each_stop, each_next}
 use Rattle.adoption.proofs.rules.check_falls.Goals as goal
