@@ -1,5 +1,5 @@
 -- What the calls of a settled register come to.
-use Rattle.std.proofs.Common.{◌≡◌, ℕ, ◌+◌, ◌-◌, ◌≤◌, Bool, true, false, leb, List, length, Some, Ok, Err, Result, sym, refl, ap, ◌∙◌, subst, ap₂}
+use Rattle.std.proofs.Common.{◌≡◌, ℕ, ◌+◌, ◌-◌, ◌≤◌, true, false, leb, List, length, Some, Ok, Err, Result, sym, refl, ap, ◌∙◌, subst, ap₂}
 use mathlib.Core.Logic.{∥∥₁_map}
 use Rattle.loads.specs.declared.Load.{Load}
 use Rattle.std.proofs.lemmas.Bool.{le-leb}
@@ -9,7 +9,6 @@ use Rattle.worksheet.specs.declared.rule.Rule.{Rule}
 use Rattle.rewriting.specs.declared.reduce.Reduced.{Reduced}
 use Rattle.rewriting.specs.declared.reduce.StepFault.{StepFault}
 use Rattle.rewriting.specs.Reducing.{Way, reduce, counted, told}
-use Rattle.questions.specs.declared.placed.Placed.{Placed}
 use Rattle.questions.specs.Placed.{placed}
 use Rattle.tables.specs.Rows.{equations_of}
 use Rattle.completion.specs.States.{State, held}

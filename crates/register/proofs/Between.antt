@@ -1,5 +1,5 @@
 -- The chain of a match as it is written into the lent row.
-use Rattle.std.proofs.Common.{◌≡◌, ℕ, ◌+◌, ◌-◌, ◌≤◌, List, ◌++◌, length, take, drop, ℤ, sym, refl, ap, ◌∙◌, ap₂, arith, length-append, length-drop, length-take}
+use Rattle.std.proofs.Common.{◌≡◌, ℕ, ◌+◌, ◌-◌, ◌≤◌, List, ◌++◌, length, take, drop, ℤ, sym, ap, ◌∙◌, ap₂, arith, length-append, length-drop, length-take}
 use borrow.Rule.Slice.PartMut.{put_mid, post_of}
 use Rattle.std.proofs.lemmas.List.{append-nil, take_all, take_at, drop_at, drop_all}
 use Rattle.loads.specs.declared.Load.{Load}
@@ -8,7 +8,7 @@ use Rattle.rewriting.specs.Reducing.{Way}
 use Rattle.tables.specs.Trails.{forward, undo, trail, over_front, over_back}
 use Rattle.questions.proofs.Walking.{Walked}
 use Rattle.completion.proofs.Rows.{follow_fills, undo_fills, length-forward, length-undo}
-use Rattle.register.specs.Matching.{steps_of, chain_between}
+use Rattle.register.specs.Matching.{chain_between}
 
 -- a row whose first s places are written with xs, and the others with ys
 pub two_parts : {X : Type 0} (row xs ys : List X) (s : ℕ) → s ≤ length row → length xs ≡ s

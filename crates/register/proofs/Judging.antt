@@ -1,5 +1,5 @@
 -- On a sound sheet a reduction ends in the family's standard load, and a verdict is right.
-use Rattle.std.proofs.Common.{◌≡◌, ℕ, ◌-◌, Bool, true, false, cond, leb, ◌⊎◌, ◌↔◌, List, ◌++◌, length, Some, Ok, Err, Option, Result, sym, refl, ap, ◌∙◌, subst, inl, inr}
+use Rattle.std.proofs.Common.{◌≡◌, ℕ, ◌-◌, Bool, true, false, cond, leb, ◌↔◌, List, length, Some, Ok, Err, Result, refl, ap, subst, inl, inr}
 use mathlib.Core.Bool.{Bool-set}
 use mathlib.Core.HLevel.{⊥_prop}
 use mathlib.Core.Logic.{∥∥₁_elim, ∥∥₁_map, ∥∥₁_prop}
@@ -16,7 +16,7 @@ use Rattle.rewriting.specs.Swaps.{equations, Joined, Reduces, Standard}
 use Rattle.rewriting.specs.Reducing.{Way, reduce}
 use Rattle.rewriting.proofs.Bridge.{reduce-ends}
 use Rattle.rewriting.proofs.Standards.{reduces_joined, reducing_tells}
-use Rattle.tables.specs.Trails.{forward, undo}
+use Rattle.tables.specs.Trails.{forward}
 use Rattle.completion.specs.States.{State}
 use Rattle.soundness.specs.Sheets.{lines}
 use Rattle.soundness.specs.Sound.{Sound}
@@ -27,7 +27,7 @@ use Rattle.refusals.specs.declared.Refusal.{Refusal}
 use Rattle.refusals.specs.declared.Refusal.TheVariants.{ShortChain}
 use Rattle.register.specs.Contents.{Contents}
 use Rattle.register.specs.Guarantee.{Guaranteed}
-use Rattle.register.specs.Matching.{Verdict, equal, different, says_equal, steps_of, chain_between, verdict, match}
+use Rattle.register.specs.Matching.{Verdict, equal, different, steps_of, chain_between, verdict, match}
 use Rattle.register.specs.Promises.{StandardOf, ChainLeads, MatchIsRight}
 
 -- the register that is settled with a sheet

@@ -1,12 +1,12 @@
 -- What an answered or refused settle comes to.
-use Rattle.std.proofs.Common.{◌≡◌, ℕ, ◌+◌, ◌≤◌, Bool, true, false, ◌&&◌, leb, List, length, Some, None, Ok, Err, Result, sym, refl, ap, ◌∙◌, subst, ap₂}
+use Rattle.std.proofs.Common.{◌≡◌, ℕ, ◌+◌, ◌≤◌, Bool, true, false, ◌&&◌, leb, List, length, Some, None, Ok, Err, Result, sym, refl, ap, ◌∙◌, ap₂}
 use mathlib.Core.Logic.{∥∥₁_map}
 use Rattle.std.specs.List.{AllByRecursion as All}
 use Rattle.std.proofs.lemmas.Bool.{le-leb, and_from}
 use Rattle.orders.specs.Laws.{Relation, Admissible}
 use Rattle.worksheet.specs.declared.equation.Equation.{Equation}
 use Rattle.completion.specs.declared.fault.RoundFault.{RoundFault}
-use Rattle.completion.specs.States.{State, blank, answered, leaves}
+use Rattle.completion.specs.States.{State, answered, leaves}
 use Rattle.completion.specs.Rounds.{settle}
 use Rattle.soundness.specs.Sheets.{Small}
 use Rattle.soundness.proofs.Answering.{err_not_ok, ok_same}

@@ -1,4 +1,6 @@
 // The register: a book of equations, a table of rules and a worksheet, in memory that is reserved when it is made.
+#![tactic(auto)]
+
 pub mod enter;
 pub mod making;
 pub mod matching;

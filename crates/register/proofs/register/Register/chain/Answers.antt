@@ -1,4 +1,4 @@
-use Rattle.std.proofs.Common.{◌≡◌, ◌+◌, ◌-◌, ◌<◌, ◌≤◌, length, sym, ap, ◌∙◌, rules}
+use Rattle.std.proofs.Common.{◌+◌, ◌-◌, ◌<◌, ◌≤◌, length, sym, ap, ◌∙◌, rules}
 use Rattle.std.specs.Option.{option_map}
 use Rattle.worksheet.specs.Claims.{nth}
 use Rattle.worksheet.specs.Derivations.{Derivation}
@@ -17,6 +17,6 @@ returns c =
     let g = c.args.self.now in
     let h : length (equations_of g.book) < c.args.number = search rules in
     let e = ap length c.equations-equations.ensures.value in
-    c.line-chain.ensures
+    c.line_chain.ensures
     ∙ ap (λ n. option_map (λ (d : Derivation). d.chain) (nth (held g.workings).added (c.args.number - (n + 1)))) e
     ∙ sym (added-chain g c.args.number h)

@@ -8,8 +8,8 @@ use Rattle.questions.specs.Placed.{placed}
 use Rattle.questions.proofs.Walking.{reduce_walked}
 use Rattle.completion.specs.States.{held}
 use Rattle.soundness.proofs.Answering.{marks}
-use Rattle.register.specs.Matching.{equal, different, chain_between, match}
-use Rattle.register.proofs.Answering.{WayOf, placed_way, differs, equals, well_matched}
+use Rattle.register.specs.Matching.{equal, chain_between}
+use Rattle.register.proofs.Answering.{placed_way, differs, equals, well_matched}
 use Rattle.register.proofs.Between.{between_fills, length-between}
 use Rattle.register.proofs.register.Register.match_loads.Goals as goal
 
@@ -44,11 +44,11 @@ returns c =
     let part : length (take (n - 0) row) ≡ n = omega (arith, length-take (n - 0) row) in
     let Walked-one = reduce_walked 1 t c.args.budget a p.way (marks (placed 1) p.answered) in
     let walked-two = reduce_walked 2 t (c.args.budget - one.steps) b q.way (marks (placed 2) q.answered) in
-    let written : c.write-between.new.row ≡ chain_between p.way q.way =
-    c.write-between.ensures ∙ between_fills t a b p.way q.way Walked-one walked-two (take (n - 0) row) one.steps two.steps long-one long-two part _ same in
-    let long : length c.write-between.new.row ≡ n = ap length written ∙ length-between t a b p.way q.way Walked-one walked-two (take (n - 0) row) one.steps two.steps long-one long-two part in
+    let written : c.write_between.new.row ≡ chain_between p.way q.way =
+    c.write_between.ensures ∙ between_fills t a b p.way q.way Walked-one walked-two (take (n - 0) row) one.steps two.steps long-one long-two part _ same in
+    let long : length c.write_between.new.row ≡ n = ap length written ∙ length-between t a b p.way q.way Walked-one walked-two (take (n - 0) row) one.steps two.steps long-one long-two part in
     let rest = post_of 0 (n - 0) row in
-    let shown : take n (c.write-between.new.row ++ rest) ≡ chain_between p.way q.way = take_at c.write-between.new.row rest n long ∙ written in
+    let shown : take n (c.write_between.new.row ++ rest) ≡ chain_between p.way q.way = take_at c.write_between.new.row rest n long ∙ written in
     let m = equals t a b (length row) c.args.budget one two p q (sym c.if-not-same.ensures) (omega arith) ∙ ap (λ zs. Ok (equal zs)) (sym shown) in
     let w = well_matched g c.if-not-self.false a b (length row) c.args.budget _ m in
-    record { did = w.did; kept = drop_at c.write-between.new.row rest n long ∙ ap (λ k. drop k row) (omega arith); right = w.right }
+    record { did = w.did; kept = drop_at c.write_between.new.row rest n long ∙ ap (λ k. drop k row) (omega arith); right = w.right }

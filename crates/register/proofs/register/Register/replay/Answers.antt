@@ -7,7 +7,7 @@ use Rattle.register.proofs.register.Register.replay.Goals as goal
 pub returns-in_err-end : goal.returns-in_err-end
 returns-in_err-end c =
     let g = c.args.self.now in
-    let p = err_from_is_err_and c.from-residual.result c.from-residual.ensures.1 in
+    let p = err_from_is_err_and c.from_residual.result c.from_residual.ensures.1 in
     rw (p.1, p.2) (falters (view g) c.args.load.now c.args.chain.now _ (lines-shown g _ _ c.equations.ensures.value c.lines.ensures) _ c.in_err-end.ensures)
 
 pub returns : goal.returns

@@ -1,4 +1,4 @@
-use Rattle.std.proofs.Common.{◌≡◌, ◌+◌, true, false, length, sym, refl, ap, ◌∙◌, subst, ap₂}
+use Rattle.std.proofs.Common.{◌≡◌, ◌+◌, true, length, sym, ap, ◌∙◌, subst, ap₂}
 use mathlib.Core.Logic.{∥∥₁_map}
 use Rattle.std.proofs.lemmas.Result.{err_from_is_err_and}
 use Rattle.std.proofs.lemmas.Bool.{false≢true}
@@ -7,16 +7,15 @@ use Rattle.tables.specs.Rows.{equations_of, rules_of}
 use Rattle.completion.specs.States.{State, held, blank, lines_of, chain_of}
 use Rattle.completion.specs.Rounds.{settle}
 use Rattle.completion.proofs.Deriving.{derivations-length}
-use Rattle.register.specs.Contents.{Contents}
 use Rattle.register.specs.Calls.{Reply, Counted, Did, Settle}
 use Rattle.register.specs.View.{view, sheet_if, contents_of}
 use Rattle.register.proofs.Settling.{answered_so, refused_so, capacity_fits, settle_did, settle_refused, settle_guarantees, open_same}
 use Rattle.register.proofs.register.Register.settle.Goals as goal
 
-pub invariant-of-self : goal.invariant-of-self
-invariant-of-self g c =
+pub invariant_of-self : goal.invariant_of-self
+invariant_of-self g c =
     let z = refused_so blank _ (held c.settle.new.self) c.in_err-steps.ensures.after _ c.in_err-steps.ensures.value in
-    (λ _. (ap (λ (s : State). length s.table) z.1, ap (λ (s : State). length s.added) z.1), (c.args.self.now.small, (∣ (λ e. absurd (false≢true (sym c.if-self.false ∙ e))) ∣₁, tt)))
+    record { bare = (λ _. (ap (λ (s : State). length s.table) z.1, ap (λ (s : State). length s.added) z.1)); small = c.args.self.now.small; sound = ∣ (λ e. absurd (false≢true (sym c.if-self.false ∙ e))) ∣₁ }
 
 pub returns-in_err-steps : goal.returns-in_err-steps
 returns-in_err-steps g c =
@@ -25,20 +24,20 @@ returns-in_err-steps g c =
     let above = g.O.Order.above c.args.order.now in
     let most = c.in-Some.most in
     let same = c.in-Some.ensures in
-    let p = err_from_is_err_and c.from-residual.result c.from-residual.ensures.1 in
+    let p = err_from_is_err_and c.from_residual.result c.from_residual.ensures.1 in
     let z = refused_so blank _ (held c.settle.new.self) c.in_err-steps.ensures.after _ c.in_err-steps.ensures.value in
     let none = ap (λ b. sheet_if b (held r.workings)) c.if-self.false in
     let refused = settle_refused above (view r) none c.args.capacity c.args.budget (capacity_fits most.rules c.args.capacity same most.some most.few) _
     (ap (λ n. settle above n book c.args.budget) (sym same) ∙ z.0) in
     rw (p.1, p.2) (subst (Did (view r) (Settle above c.args.capacity c.args.budget) _) (open_same book r.settled c.if-self.false (held r.workings) (held c.settle.new.self)) refused)
 
-pub invariant-of-self-2 : goal.invariant-of-self-2
-invariant-of-self-2 g c =
+pub invariant_of-self-2 : goal.invariant_of-self-2
+invariant_of-self-2 g c =
     let r = c.args.self.now in
     let above = g.O.Order.above c.args.order.now in
     let z = answered_so blank _ (held c.settle.new.self) c.in_ok-steps.ensures.after _ c.in_ok-steps.ensures.value in
     let sound = settle_guarantees above (g.met.O.Order.laws c.args.order.now) (equations_of r.book) r.small c.in-Some.most.rules c.args.budget _ _ z in
-    (λ e. absurd (false≢true (sym e)), (r.small, (∥∥₁_map sound (λ k _. k), tt)))
+    record { bare = (λ e. absurd (false≢true (sym e))); small = r.small; sound = ∥∥₁_map sound (λ k _. k) }
 
 pub returns : goal.returns
 returns g c =

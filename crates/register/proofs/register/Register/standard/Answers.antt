@@ -1,9 +1,8 @@
-use Rattle.std.proofs.Common.{◌≡◌, sym, ap, ◌∙◌, subst}
+use Rattle.std.proofs.Common.{sym, ap, ◌∙◌, subst}
 use Rattle.tables.specs.declared.table.Table.{Table}
 use Rattle.tables.specs.Rows.{equations_of, rules_of}
 use Rattle.rewriting.specs.declared.reduce.Reduced.{Reduced}
 use Rattle.completion.specs.States.{held}
-use Rattle.loads.specs.declared.Load.{Load}
 use Rattle.register.specs.Contents.{Contents}
 use Rattle.register.specs.Promises.{StandardOf}
 use Rattle.register.specs.View.{view, sheet_if}
