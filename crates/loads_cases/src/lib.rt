@@ -1,3 +1,5 @@
+#![tactic(auto)]
+
 // Loads and chains, run and compared at the edges of their counts.
 #[cfg(test)]
 mod tests {
