@@ -1,4 +1,6 @@
 // Worked books, as theorems about the definitions that the contracts of the calls cite.
+#![tactic(auto)]
+
 ghost use Rattle.books.specs.Books.{WorkedFacts, WorkedBooks};
 
 // Each worked fact comes out as it is told.
