@@ -1,3 +1,5 @@
+#![tactic(auto)]
+
 // Tests in bulk of the swap file: what is read, refused and written, executed.
 #[cfg(test)]
 mod data;

@@ -73,7 +73,7 @@ fn write_worked(out: &mut [u8]) -> Result<usize, WriteFault> {
 fn worked_file(rt: HostRuntime) {
     let mut out = [7u8; 42];
     assert_eq!(rt; write_worked(&mut out), Ok(40));
-    assert!(rt; &out[0..40] == WORKED && is_untouched(&out[40..42]));
+    assert!(rt; &out[0..40] == WORKED.as_slice() && is_untouched(&out[40..42]));
 }
 
 // Whether a buffer is too short, and stays.

@@ -25,7 +25,7 @@ pub(crate) enum Command {
 // An equation, as `a2b = c`.
 fn read_equation(words: &mut Words) -> Option<Equation> {
     let left = read_load(words.next()?)?;
-    if words.next()? != b"=" {
+    if words.next()? != b"=".as_slice() {
         return None;
     }
     let right = read_load(words.next()?)?;

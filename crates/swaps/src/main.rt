@@ -1,4 +1,6 @@
 // Runs a script of calls on a register, and prints in words what each call did.
+#![tactic(auto)]
+
 mod answers;
 mod command;
 mod input;

@@ -78,7 +78,7 @@ fn read_count(digits: &[u8]) -> Option<u16> {
 
 // The load that a text writes, if it is written as it would be printed.
 pub(crate) fn read_load(text: &[u8]) -> Option<Load> {
-    if text == b"1" {
+    if text == b"1".as_slice() {
         return Some(Load::empty());
     }
     let mut counts = [0; 8];
