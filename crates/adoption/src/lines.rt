@@ -35,7 +35,7 @@ fn check_line(
     chain: &[i16],
     claim: &Equation,
 ) -> Result<(), WorksheetFault>
-    ensures { result ≡ line_replays (claims book.now before.now) (record { claim = claim.entry.now; chain = chain.now }) }
+    ensures { result ≡ line_replays (claims book.now before.now) (record { claim = claim.now; chain = chain.now }) }
 {
     let number = book.len() + before.len() + 1;
     match replay(book, before, chain, &claim.left) {
