@@ -17,8 +17,8 @@ use swapfile::fault::FileFault;
 
 // The window on the section whose count stands at a header byte, and its offset eight bytes on.
 fn window_at<'a, R>(bytes: &'a [u8], at: usize, end: usize) -> Window<'a, R>
-    requires at_in_bounds { at + 9 < length bytes.now }
-    requires end_in_bounds { end ≤ length bytes.now }
+    requires header { at + 9 < length bytes.now }
+    requires within { end ≤ length bytes.now }
     ensures { shown result ≡ section bytes.now at «end» }
 {
     Window {
@@ -53,10 +53,10 @@ impl<'a> Reader<'a> {
 
     // The windows that the header lays out.
     fn over(bytes: &'a [u8]) -> Reader<'a>
-        requires in_bounds { 16 ≤ length bytes.now }
-        requires bytes_in_bounds { number_at bytes.now 10 ≤ length bytes.now }
-        requires bytes_in_bounds_2 { number_at bytes.now 12 ≤ length bytes.now }
-        requires bytes_in_bounds_3 { number_at bytes.now 14 ≤ length bytes.now }
+        requires header { 16 ≤ length bytes.now }
+        requires equations_within { number_at bytes.now 10 ≤ length bytes.now }
+        requires rules_within { number_at bytes.now 12 ≤ length bytes.now }
+        requires lines_within { number_at bytes.now 14 ≤ length bytes.now }
         ensures { shown_by result ≡ layout bytes.now }
     {
         Reader {

@@ -1,6 +1,6 @@
+// Loads and chains, run and compared at the edges of their counts.
 #![tactic(auto)]
 
-// Loads and chains, run and compared at the edges of their counts.
 #[cfg(test)]
 mod tests {
     use loads::Load;

@@ -1,6 +1,6 @@
+// The orders on worked comparisons, and at counts and weights of 0 and 65,535.
 #![tactic(auto)]
 
-// The orders on worked comparisons, and at counts and weights of 0 and 65,535.
 #[cfg(test)]
 mod tests {
     use loads::Load;

@@ -25,8 +25,8 @@ pub(crate) fn sides_at(bytes: &[u8], at: usize) -> Option<Sides>
 
 // The two loads.
 pub(crate) fn read_sides(bytes: &[u8], left: usize, right: usize) -> Equation
-    requires left_in_bounds { left + sides_size bytes.now left ≤ length bytes.now }
-    requires right_value { right ≡ right_at bytes.now left }
+    requires within { left + sides_size bytes.now left ≤ length bytes.now }
+    requires behind { right ≡ right_at bytes.now left }
     ensures { result ≡ equation_at bytes.now left }
 {
     Equation {
@@ -37,8 +37,8 @@ pub(crate) fn read_sides(bytes: &[u8], left: usize, right: usize) -> Equation
 
 // The byte of their first present count that is 0.
 pub(crate) fn zero_in_sides(bytes: &[u8], left: usize, right: usize) -> Option<usize>
-    requires left_in_bounds { left + sides_size bytes.now left ≤ length bytes.now }
-    requires right_value { right ≡ right_at bytes.now left }
+    requires within { left + sides_size bytes.now left ≤ length bytes.now }
+    requires behind { right ≡ right_at bytes.now left }
     ensures { result ≡ sides_zero bytes.now left }
 {
     match zero_in_load(bytes, left) {

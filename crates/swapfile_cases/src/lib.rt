@@ -1,6 +1,6 @@
+// Tests in bulk of the swap file: what is read, refused and written, executed.
 #![tactic(auto)]
 
-// Tests in bulk of the swap file: what is read, refused and written, executed.
 #[cfg(test)]
 mod data;
 #[cfg(test)]
