@@ -44,7 +44,7 @@ at-shared x y = at-load_of (λ k. min (at x k) (at y k)) (λ k h. omega (arith, 
 pub ruleset counts = (arith, at-empty, at-plus, at-minus, at-shared)
 
 -- a load is its counts
-load_same : (x y : Load) → x.counts ≡ y.counts → x ≡ y
+pub load_same : (x y : Load) → x.counts ≡ y.counts → x ≡ y
 load_same x y p =
     let e : x.presence ≡ y.presence = x.present ∙ ap bits p ∙ sym y.present in
     λ i. record {

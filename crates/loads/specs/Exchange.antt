@@ -1,11 +1,15 @@
 -- One load taken out of a load, and another put in.
-use Rattle.std.specs.Prelude.{Ok, Result}
+use Rattle.std.specs.Prelude.{ℕ, ◌+◌, ◌-◌, Ok, Result}
 use Rattle.loads.specs.declared.Load.{Load}
 use Rattle.loads.specs.declared.exchange.ExchangeFault.{ExchangeFault}
 use Rattle.loads.specs.declared.exchange.ExchangeFault.TheVariants.{Lacks, Overflow}
 use Rattle.loads.specs.Answers.{◌>>=◌, check}
-use Rattle.loads.specs.Loads.{plus, minus}
+use Rattle.loads.specs.Loads.{at, plus, minus}
 use Rattle.loads.specs.Tests.{contains, fits}
+
+-- the count of the article at place k, less out's, with into's added
+abbrev pub new : (x out into : Load) → ℕ → ℕ
+new x out into k = at x k - at out k + at into k
 
 -- x − out + into
 abbrev pub swapped : (x out into : Load) → Load

@@ -5,4 +5,3 @@ pub mod Tests
 pub mod Totals
 pub mod Presence
 pub mod Exchange
-pub mod Sameness

@@ -14,8 +14,8 @@ impl Load {
             return false;
         }
         let mut lack = 0;
-        for i in 0..8 {
-            lack |= other.counts[i].saturating_sub(self.counts[i]);
+        for (mine, theirs) in self.counts.iter().zip(&other.counts) {
+            lack |= theirs.saturating_sub(*mine);
         }
         lack == 0
     }

@@ -7,32 +7,41 @@ ghost use Rattle.loads.specs.Totals.{pieces};
 use crate::Load;
 use crate::presence::presence_of;
 
+// The load with these counts of articles 1 to 8.
+impl From<[u16; 8]> for Load {
+    ghost from_gives = { λ counts r. r ≡ of_counts counts };
+
+    fn from(counts: [u16; 8]) -> Load {
+        Load {
+            presence: presence_of(&counts),
+            counts,
+        }
+    }
+}
+
 impl Load {
     // The load without a piece.
     pub fn empty() -> Load
         ensures { result ≡ empty }
     {
         Load {
-            counts: [0; 8],
             presence: 0,
+            counts: [0; 8],
         }
     }
 
-    // The load with these counts of articles 1 to 8.
-    pub fn of(counts: [u16; 8]) -> Load
-        ensures { result ≡ of_counts counts }
+    // The counts of articles 1 to 8.
+    pub fn counts(&self) -> &[u16; 8]
+        ensures { result.now ≡ self.now.counts }
     {
-        Load {
-            counts,
-            presence: presence_of(&counts),
-        }
+        &self.counts
     }
 
     // How many pieces of the article at a place, counted from 0; none past the eighth.
     pub fn count(&self, place: usize) -> u16
         ensures { result ≡ at self.now place }
     {
-        if place < 8 { self.counts[place] } else { 0 }
+        self.counts.get(place).copied().unwrap_or(0)
     }
 
     // The total of pieces. That it was added up shows that every count fits 16 bits.
@@ -41,8 +50,8 @@ impl Load {
         ensures small { fits self.now ≡ true }
     {
         let mut sum = 0;
-        for i in 0..8 {
-            sum += self.counts[i] as u32;
+        for count in self.counts.iter() {
+            sum += u32::from(*count);
         }
         sum
     }

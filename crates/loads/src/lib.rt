@@ -4,18 +4,17 @@
 ghost use Rattle.std.specs.Prelude.{◌≡◌, T, length, ◌==◌};
 ghost use Rattle.loads.specs.Bits.{bits};
 
-// A load, an exponent vector to the algebraist: the counts of articles 1 to 8. Beside them it keeps its presence byte, a bit for each article that
+// A load, an exponent vector to the algebraist: the counts of articles 1 to 8. Before them it keeps its presence byte, a bit for each article that
 // it has a piece of, so that most questions are answered before a count is read.
-#[derive(Clone, Copy)]
+#[derive(Clone, Copy, PartialEq, Eq)]
 pub struct Load {
-    counts: [u16; 8],
     presence: u8,
+    counts: [u16; 8],
     ghost eight: { T (length counts == 8) },
     ghost present: { presence ≡ bits counts },
 }
 
 pub mod containment;
 pub mod counts;
-pub mod equality;
 pub mod exchange;
 pub mod presence;

@@ -11,8 +11,8 @@ pub(crate) fn presence_of(counts: &[u16; 8]) -> u8
     ensures { result ≡ bits counts.now }
 {
     let mut bits = 0;
-    for i in (0..8).rev() {
-        bits = 2 * bits + u8::from(counts[i] > 0);
+    for count in counts.iter().rev() {
+        bits = 2 * bits + u8::from(*count > 0);
     }
     bits
 }
