@@ -23,8 +23,5 @@ pub trait Order {
 pub fn higher<O: Order>(order: &O, a: &Load, b: &Load) -> bool
     ensures { result ≡ O.above order.now a.now b.now }
 {
-    match order.compare(a, b) {
-        Ordering::Greater => true,
-        Ordering::Less | Ordering::Equal => false,
-    }
+    order.compare(a, b).is_gt()
 }

@@ -1,28 +1,32 @@
 // The split order: two orders of any kind, each for its part of the articles.
-ghost use Rattle.std.specs.Prelude.{◌≡◌};
+ghost use Rattle.std.specs.Prelude.{◌≡◌, cond};
+ghost use Rattle.std.specs.Bool.{beq};
 ghost use Rattle.orders.specs.Relations.{part, split};
 ghost use Rattle.orders.specs.SplitLaws.{split_laws};
 
 use crate::order::Order;
 use loads::Load;
+use std::array;
 use std::cmp::Ordering;
 
 // A mark for each article.
 #[derive(Clone, Copy)]
 pub struct Marks(pub [bool; 8]);
 
+// A count, or 0 where its mark is not `side`.
+fn kept(mark: bool, side: bool, count: u16) -> u16
+    ensures { result ≡ cond (beq mark side) count 0 }
+{
+    if mark == side { count } else { 0 }
+}
+
 impl Marks {
     // The load with the counts at places whose mark is not `side` set to 0.
+    #[tactic(auto, unfolding(crate::specs::Relations::part))]
     fn part(&self, load: &Load, side: bool) -> Load
         ensures { result ≡ part self.now.0 side load.now }
     {
-        let mut counts = [0; 8];
-        for i in 0..8 {
-            if self.0[i] == side {
-                counts[i] = load.count(i);
-            }
-        }
-        Load::of(counts)
+        Load::from(array::from_fn(|i| kept(self.0[i], side, load.count(i))))
     }
 }
 
@@ -41,14 +45,11 @@ impl<First: Order, Second: Order> Order for Split<First, Second> {
     ghost laws = { λ o. split_laws o.marks.0 (First.Order.laws o.first) (Second.Order.laws o.second) };
 
     fn compare(&self, a: &Load, b: &Load) -> Ordering {
-        let marked = self
-            .first
-            .compare(&self.marks.part(a, true), &self.marks.part(b, true));
-        match marked {
-            Ordering::Equal => self
-                .second
-                .compare(&self.marks.part(a, false), &self.marks.part(b, false)),
-            other => other,
-        }
+        self.first
+            .compare(&self.marks.part(a, true), &self.marks.part(b, true))
+            .then_with(|| {
+                self.second
+                    .compare(&self.marks.part(a, false), &self.marks.part(b, false))
+            })
     }
 }

@@ -2,6 +2,7 @@
 use Rattle.std.specs.Prelude.{ℕ, zero, suc, List, [], ◌∷◌, ◌++◌, map, ℤ, pos, negsuc, Some, None, Option}
 use Rattle.worksheet.specs.declared.equation.Equation.{Equation}
 use Rattle.worksheet.specs.declared.line.Line.{Line}
+use Rattle.worksheet.specs.declared.lines.Lines.{Lines}
 
 -- the equation the other way round
 abbrev pub turned : Equation → Equation
@@ -10,6 +11,10 @@ turned e = record { left = e.right; right = e.left }
 -- lines 1 to n claim the n equations of the book; then come the added lines
 abbrev pub claims : List Equation → List Line → List Equation
 claims book added = book ++ map (λ l. l.claim) added
+
+-- what the lines of a worksheet claim, by their numbers
+abbrev pub claimed : Lines → List Equation
+claimed ls = claims ls.book.now ls.added.now
 
 -- what stands at a place, counted from 0
 abbrev pub nth : {X : Type 0} → List X → ℕ → Option X

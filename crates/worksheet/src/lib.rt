@@ -4,6 +4,6 @@
 pub mod equation;
 pub mod fault;
 pub mod line;
+pub mod lines;
 pub mod net;
-pub mod replay;
 pub mod rule;

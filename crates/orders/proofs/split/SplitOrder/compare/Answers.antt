@@ -1,17 +1,16 @@
-use Rattle.std.proofs.Common.{sym, ◌∙◌}
-use Rattle.orders.proofs.Answering.{split_level, split-apart}
+use Rattle.std.proofs.Common.{◌≡◌, true, false, ◌∙◌, rules}
+use Rattle.std.specs.Ordering.{ordering_then}
+use Rattle.orders.specs.Comparing.{answer}
+use Rattle.orders.specs.Relations.{part}
+use Rattle.orders.proofs.Answering.{answer-split}
 use Rattle.orders.proofs.split.SplitOrder.compare.Goals as goal
 
-pub returns-in-Equal : goal.returns-in-Equal
-returns-in-Equal g c =
+pub returns : goal.returns
+returns g c =
     let s = c.args.self.now in
-    split_level s.marks.0 (g.First.Order.above s.first) (g.Second.Order.above s.second) (g.met.First.Order.laws s.first) c.args.a.now c.args.b.now c.compare.result
-    (rw (c.part.ensures, c.part-2.ensures) at (sym c.compare-marked.ensures ∙ c.in-Equal.is))
-    (rw (c.part-in-Equal.ensures, c.part-in-Equal-2.ensures) at c.compare.ensures)
-
-pub returns-in_default : goal.returns-in_default
-returns-in_default g c =
-    let s = c.args.self.now in
-    split-apart s.marks.0 (g.First.Order.above s.first) (g.Second.Order.above s.second) (g.met.First.Order.laws s.first) c.args.a.now c.args.b.now c.compare-marked.result
-    c.in_default.not-Equal
-    (rw (c.part.ensures, c.part-2.ensures) at c.compare-marked.ensures)
+    let x = c.args.a.now in
+    let y = c.args.b.now in
+    let first = g.First.Order.above s.first in
+    let second = g.Second.Order.above s.second in
+    let e : c.then_with.result ≡ ordering_then (answer first (part s.marks.0 true x) (part s.marks.0 true y)) (answer second (part s.marks.0 false x) (part s.marks.0 false y)) = search rules in
+    e ∙ answer-split s.marks.0 first second (g.met.First.Order.laws s.first) x y
