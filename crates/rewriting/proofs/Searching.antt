@@ -1,5 +1,7 @@
 -- The search: a place more, and the rule at the place found.
 use Rattle.std.proofs.Common.{◌≡◌, ℕ, suc, ◌+◌, ◌<◌, ◌≤◌, Bool, true, false, List, [], ◌∷◌, length, get_or, drop, Some, None, sym, refl, ap, ◌∙◌, arith, drop_of_length-le}
+use Rattle.std.proofs.lemmas.Iterator.Adapters.{position_from-zero}
+use Rattle.std.specs.List.{position, position_from}
 use Rattle.std.proofs.lemmas.List.{drop_more}
 use Rattle.loads.specs.declared.Load.{Load}
 use Rattle.loads.specs.Tests.{contains}
@@ -53,3 +55,11 @@ search-none (r ∷ t) a i e = let ih = search-none t a (i + 1) in grind arith
 pub fitting-contains : (t : List Rule) (a : Load) (r : Rule) → fitting t a ≡ Some r → contains a r.left ≡ true
 fitting-contains [] a r e = let z : ◌≡◌ {A = ℕ} 0 1 = cc in absurd (omega arith)
 fitting-contains (s ∷ t) a r e = let ih = fitting-contains t a r in grind arith
+
+-- the search is std's `position`
+search_from : (t : List Rule) (a : Load) (i : ℕ) → position_from (λ (r : Rule). contains a r.left) i t ≡ search i t a
+search_from [] a i = refl
+search_from (r ∷ t) a i = let ih = search_from t a (i + 1) in grind arith
+
+pub search_position : (t : List Rule) (a : Load) → position (λ (r : Rule). contains a r.left) t ≡ search 0 t a
+search_position t a = position_from-zero (λ (r : Rule). contains a r.left) t ∙ search_from t a 0

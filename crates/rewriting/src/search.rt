@@ -10,10 +10,5 @@ pub fn search(table: &[Rule], load: &Load) -> Option<usize>
     ensures is { result ≡ search 0 table.now load.now }
     ensures within { IfSome result (λ i. i < length table.now) }
 {
-    for i in 0..table.len() {
-        if load.contains(&table[i].left) {
-            return Some(i);
-        }
-    }
-    None
+    table.iter().position(|rule| load.contains(&rule.left))
 }

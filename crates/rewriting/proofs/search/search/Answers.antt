@@ -1,15 +1,14 @@
-use Rattle.std.proofs.Common.{sym, ◌∙◌, arith}
-use Rattle.rewriting.proofs.Searching.{search_hit, search_miss, search-end}
+use Rattle.std.proofs.Common.{◌∙◌, rules, tests}
+use Rattle.std.proofs.lemmas.Iterator.{YieldsList-from_slice}
+use Rattle.std.proofs.lemmas.Iterator.Search.{position_from_yields_List}
+use Rattle.worksheet.specs.declared.rule.Rule.{Rule}
+use Rattle.loads.specs.Tests.{contains}
+use Rattle.rewriting.proofs.Searching.{search_position}
 use Rattle.rewriting.proofs.search.search.Goals as goal
 
-pub returns-then-contains : goal.returns-then-contains
-returns-then-contains c = record {
-  is = sym (c.loop-i.invariant ∙ search_hit c.args.table.now c.args.load.now c.loop-i.i c.index-table-i.result (omega arith) (sym c.if-contains.ensures));
-  within = omega arith;
-}
-
-pub loop-i-preserved : goal.loop-i-preserved
-loop-i-preserved c = c.loop-i.invariant ∙ search_miss c.args.table.now c.args.load.now c.loop-i.i c.index-table-i.result (omega arith) (sym c.if-contains.ensures)
-
 pub returns : goal.returns
-returns c = record { is = sym (c.loop-i.invariant ∙ search-end c.args.table.now c.args.load.now c.loop-i.i (omega arith)); within = tt }
+returns c =
+    let t = c.args.table.now in
+    let a = c.args.load.now in
+    let e = position_from_yields_List (λ (r : Rule). contains a r.left) _ _ c.position.result c.position.ensures.ran (YieldsList-from_slice t cc) (λ x r q k. search (rules, tests)) in
+    record { is = e ∙ search_position t a; within = search rules }
