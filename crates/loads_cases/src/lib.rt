@@ -13,7 +13,7 @@ mod tests {
 
     // So many of the first article and of the last.
     fn ends(first: u16, last: u16) -> Load {
-        Load::of([first, 0, 0, 0, 0, 0, 0, last])
+        Load::from([first, 0, 0, 0, 0, 0, 0, last])
     }
 
     #[test]
@@ -21,7 +21,7 @@ mod tests {
         assert_eq!(rt; ends(3, 65535).presence(), 129);
         assert_eq!(rt; ends(3, 65535).kinds(), 2);
         assert_eq!(rt; Load::empty().presence(), 0);
-        assert_eq!(rt; Load::of([65535; 8]).pieces(), 524280);
+        assert_eq!(rt; Load::from([65535; 8]).pieces(), 524280);
     }
 
     #[test]

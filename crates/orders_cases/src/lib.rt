@@ -15,12 +15,12 @@ mod tests {
 
     // A load by its counts of the first three articles, a, b and c.
     fn abc(a: u16, b: u16, c: u16) -> Load {
-        Load::of([a, b, c, 0, 0, 0, 0, 0])
+        Load::from([a, b, c, 0, 0, 0, 0, 0])
     }
 
     // A load with 65,535 of each article but the last.
     fn full(last: u16) -> Load {
-        Load::of([65535, 65535, 65535, 65535, 65535, 65535, 65535, last])
+        Load::from([65535, 65535, 65535, 65535, 65535, 65535, 65535, last])
     }
 
     // The first load is above the second, whichever is asked about first.
@@ -59,7 +59,7 @@ mod tests {
         ranks(
             &rt,
             &over_listed,
-            Load::of([0, 0, 0, 0, 0, 0, 0, 1]),
+            Load::from([0, 0, 0, 0, 0, 0, 0, 1]),
             abc(10000, 10000, 10000),
         );
     }
@@ -91,14 +91,14 @@ mod tests {
             &rt,
             &split,
             abc(0, 1, 0),
-            Load::of([0, 0, 65535, 65535, 65535, 65535, 65535, 65535]),
+            Load::from([0, 0, 65535, 65535, 65535, 65535, 65535, 65535]),
         );
         ranks(&rt, &split, abc(1, 0, 1), abc(0, 2, 0));
         ranks(
             &rt,
             &split,
-            Load::of([1, 1, 0, 2, 0, 0, 0, 0]),
-            Load::of([1, 1, 1, 0, 1, 0, 0, 0]),
+            Load::from([1, 1, 0, 2, 0, 0, 0, 0]),
+            Load::from([1, 1, 1, 0, 1, 0, 0, 0]),
         );
     }
 

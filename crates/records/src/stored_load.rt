@@ -42,7 +42,7 @@ pub(crate) fn read_load(bytes: &[u8], at: usize) -> Load
         counts[i] = count;
         left /= 2;
     }
-    Load::of(counts)
+    Load::from(counts)
 }
 
 // The byte of its first present count that is 0.

@@ -12,8 +12,8 @@ use worksheet::rule::Rule;
 // An equation of all articles with the largest counts.
 fn full() -> Equation {
     Equation {
-        left: Load::of([65535; 8]),
-        right: Load::of([256; 8]),
+        left: Load::from([65535; 8]),
+        right: Load::from([256; 8]),
     }
 }
 

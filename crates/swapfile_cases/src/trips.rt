@@ -57,8 +57,8 @@ fn files(rt: HostRuntime) -> Result<(), Fail> {
 
 // The file of a² = b in a buffer.
 fn write_worked(out: &mut [u8]) -> Result<usize, WriteFault> {
-    let left = Load::of([2, 0, 0, 0, 0, 0, 0, 0]);
-    let right = Load::of([0, 1, 0, 0, 0, 0, 0, 0]);
+    let left = Load::from([2, 0, 0, 0, 0, 0, 0, 0]);
+    let right = Load::from([0, 1, 0, 0, 0, 0, 0, 0]);
     let claim = Equation { left, right };
     let rule = Rule {
         left,

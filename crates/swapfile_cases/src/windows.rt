@@ -85,7 +85,7 @@ fn is_load(at: usize, first: u16, second: u16) -> bool {
         return false;
     };
     match reader.rules.load(at) {
-        Some(load) => load == Load::of([first, second, 0, 0, 0, 0, 0, 0]),
+        Some(load) => load == Load::from([first, second, 0, 0, 0, 0, 0, 0]),
         None => false,
     }
 }

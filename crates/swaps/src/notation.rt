@@ -93,5 +93,5 @@ pub(crate) fn read_load(text: &[u8]) -> Option<Load> {
     if at == 0 || at < text.len() {
         return None;
     }
-    Some(Load::of(counts))
+    Some(Load::from(counts))
 }
