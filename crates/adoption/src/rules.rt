@@ -1,42 +1,36 @@
 // The rules of a file's table, one by one.
 ghost use Rattle.std.specs.Prelude.{◌≡◌, ◌<◌, length, pos};
-ghost use Rattle.worksheet.specs.Claims.{claims, named};
+ghost use Rattle.worksheet.specs.Claims.{claimed, named};
 ghost use Rattle.adoption.specs.Tables.{stated, rules_claimed, rules_fall, unfit, left_before, rises, reduced_at, table_reduced, rules_hold};
 
-use crate::equations::same_sides;
 use crate::fault::TableFault;
 use loads::Load;
 use orders::order::{Order, higher};
 use rewriting::search::search;
 use worksheet::equation::Equation;
-use worksheet::line::Line;
-use worksheet::replay::claim_at;
+use worksheet::lines::Lines;
 use worksheet::rule::Rule;
 
 // The rule is what its line claims.
-fn is_claimed(book: &[Equation], lines: &[Line], rule: &Rule) -> bool
-    ensures { result ≡ stated rule.now (named (claims book.now lines.now) (pos rule.now.line)) }
+fn is_claimed(lines: &Lines, rule: &Rule) -> bool
+    ensures { result ≡ stated rule.now (named (claimed lines.now) (pos rule.now.line)) }
 {
-    if rule.line == 0 {
-        return false;
-    }
     let sides = Equation {
         left: rule.left,
         right: rule.right,
     };
-    match claim_at(book, lines, rule.line as usize - 1) {
+    match usize::from(rule.line).checked_sub(1) {
+        Some(place) => lines.claim_at(place) == Some(sides),
         None => false,
-        Some(claim) => same_sides(&sides, &claim),
     }
 }
 
 // The rules are what their lines claim.
-pub fn check_claims(book: &[Equation], lines: &[Line], rules: &[Rule]) -> Result<(), TableFault>
-    ensures { result ≡ rules_claimed (claims book.now lines.now) rules.now }
+pub fn check_claims(lines: &Lines, rules: &[Rule]) -> Result<(), TableFault>
+    ensures { result ≡ rules_claimed (claimed lines.now) rules.now }
 {
-    for i in 0..rules.len() {
-        let rule = rules[i];
-        if !is_claimed(book, lines, &rule) {
+    for (i, rule) in rules.iter().enumerate() {
+        if !is_claimed(lines, rule) {
             return Err(TableFault::NotClaimed(i + 1));
         }
     }
@@ -47,8 +41,7 @@ pub fn check_claims(book: &[Equation], lines: &[Line], rules: &[Rule]) -> Result
 pub fn check_falls<O: Order>(order: &O, rules: &[Rule]) -> Result<(), TableFault>
     ensures { result ≡ rules_fall (O.above order.now) rules.now }
 {
-    for i in 0..rules.len() {
-        let rule = rules[i];
+    for (i, rule) in rules.iter().enumerate() {
         if !higher(order, &rule.left, &rule.right) {
             return Err(TableFault::NotFalling(i + 1));
         }
@@ -68,11 +61,10 @@ fn rises<O: Order>(order: &O, rules: &[Rule], i: usize, left: &Load) -> bool
     requires { i < length rules.now }
     ensures { result ≡ rises (O.above order.now) (left_before rules.now i) left.now }
 {
-    if i == 0 {
-        return true;
+    match i.checked_sub(1) {
+        Some(before) => higher(order, left, &rules[before].left),
+        None => true,
     }
-    let last = rules[i - 1];
-    higher(order, left, &last.left)
 }
 
 // The left load of the rule at the place i rises and contains no other, and no rule fits its right load.
@@ -80,25 +72,18 @@ fn is_reduced<O: Order>(order: &O, rules: &[Rule], i: usize, rule: &Rule) -> boo
     requires { i < length rules.now }
     ensures { result ≡ reduced_at (O.above order.now) rules.now i rule.now }
 {
-    if !rises(order, rules, i, &rule.left) {
-        return false;
-    }
-    if !unfit(&rules[..i], &rule.left) {
-        return false;
-    }
-    if !unfit(&rules[i + 1..], &rule.left) {
-        return false;
-    }
-    unfit(rules, &rule.right)
+    rises(order, rules, i, &rule.left)
+        && unfit(&rules[..i], &rule.left)
+        && unfit(&rules[i + 1..], &rule.left)
+        && unfit(rules, &rule.right)
 }
 
 // The table is reduced.
 pub fn check_reduced<O: Order>(order: &O, rules: &[Rule]) -> Result<(), TableFault>
     ensures { result ≡ table_reduced (O.above order.now) rules.now }
 {
-    for i in 0..rules.len() {
-        let rule = rules[i];
-        if !is_reduced(order, rules, i, &rule) {
+    for (i, rule) in rules.iter().enumerate() {
+        if !is_reduced(order, rules, i, rule) {
             return Err(TableFault::NotReduced(i + 1));
         }
     }
@@ -106,15 +91,10 @@ pub fn check_reduced<O: Order>(order: &O, rules: &[Rule]) -> Result<(), TableFau
 }
 
 // Every rule is what its line claims, then every rule falls, then the table is reduced.
-pub fn check_rules<O: Order>(
-    order: &O,
-    book: &[Equation],
-    lines: &[Line],
-    rules: &[Rule],
-) -> Result<(), TableFault>
-    ensures { result ≡ rules_hold (O.above order.now) (claims book.now lines.now) rules.now }
+pub fn check_rules<O: Order>(order: &O, lines: &Lines, rules: &[Rule]) -> Result<(), TableFault>
+    ensures { result ≡ rules_hold (O.above order.now) (claimed lines.now) rules.now }
 {
-    check_claims(book, lines, rules)?;
+    check_claims(lines, rules)?;
     check_falls(order, rules)?;
     check_reduced(order, rules)
 }

@@ -6,17 +6,16 @@ use crate::equations::check_equations;
 use crate::fault::WorksheetFault;
 use crate::lines::check_lines;
 use worksheet::equation::Equation;
-use worksheet::line::Line;
+use worksheet::lines::Lines;
 
-// The file has the register's own equations, and its lines replay.
+// The file has the register's own equations, and its lines, which follow on these, replay.
 pub fn check_worksheet(
-    own: &[Equation],
     file: &[Equation],
-    lines: &[Line],
+    lines: &Lines,
     chain: &[i16],
 ) -> Result<(), WorksheetFault>
-    ensures { result ≡ worksheet_holds own.now file.now lines.now chain.now }
+    ensures { result ≡ worksheet_holds lines.now.book.now file.now lines.now.added.now chain.now }
 {
-    check_equations(own, file)?;
-    check_lines(own, lines, chain)
+    check_equations(lines.book, file)?;
+    check_lines(lines, chain)
 }
