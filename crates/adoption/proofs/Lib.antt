@@ -5,3 +5,4 @@ pub mod Asking
 pub mod Loops
 pub mod Adopting
 pub mod Bounds
+pub mod Agreeing

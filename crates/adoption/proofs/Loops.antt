@@ -1,7 +1,7 @@
 -- One place more of each row that is checked.
-use Rattle.std.proofs.Common.{◌≡◌, ℕ, zero, suc, ◌+◌, ◌-◌, ◌<◌, ◌≤◌, Bool, true, false, not, ◌&&◌, eqb, leb, List, [], ◌∷◌, ◌++◌, map, length, get_or, take, drop, ℤ, is_some, Some, Ok, Err, Option, Result, sym, refl, ap, ◌∙◌, subst, ap₂, append_assoc, append-nil, arith, length-append, length-drop}
+use Rattle.std.proofs.Common.{◌≡◌, ℕ, ◌+◌, ◌-◌, ◌<◌, ◌≤◌, Bool, true, false, not, ◌&&◌, eqb, leb, List, [], ◌∷◌, ◌++◌, map, length, get_or, take, drop, ℤ, pos, is_some, Some, Ok, Err, Option, Result, sym, refl, ap, ◌∙◌, subst, ap₂, append_assoc, add-one, arith, length-append}
 use lib.ListN.{length-map}
-use Rattle.std.proofs.lemmas.List.{take_more, take_all, at_drop_more, at_drop_all, drop-drop, map_push}
+use Rattle.std.proofs.lemmas.List.{take_more, at_drop_more, at_drop_all, drop-drop, map_push}
 use Rattle.std.proofs.lemmas.List.Sums.{sum_by-cons, sum_by-drop_more}
 use Rattle.std.proofs.lemmas.Bool.{leb-true, false≢true}
 use Rattle.loads.specs.declared.Load.{Load}
@@ -10,19 +10,16 @@ use Rattle.loads.specs.Tests.{contains, alike}
 use Rattle.worksheet.specs.declared.equation.Equation.{Equation}
 use Rattle.worksheet.specs.declared.line.Line.{Line}
 use Rattle.worksheet.specs.declared.rule.Rule.{Rule}
-use Rattle.worksheet.specs.Claims.{nth, claims}
+use Rattle.worksheet.specs.Claims.{nth, claims, named}
 use Rattle.worksheet.specs.Derivations.{Derivation, derivations, lengths}
 use Rattle.worksheet.specs.Replay.{replay}
-use Rattle.worksheet.specs.declared.fault.ReplayFault.{ReplayFault}
-use Rattle.worksheet.proofs.Numbering.{nth_left}
-use Rattle.orders.specs.Laws.{Relation}
 use Rattle.rewriting.specs.Reducing.{fitting, search}
 use Rattle.soundness.proofs.Answering.{went, checked}
 use Rattle.adoption.specs.declared.fault.WorksheetFault.{WorksheetFault}
-use Rattle.adoption.specs.declared.fault.WorksheetFault.TheVariants.{Differs, Uneven, Replay, Elsewhere}
+use Rattle.adoption.specs.declared.fault.WorksheetFault.TheVariants.{Uneven, Elsewhere}
 use Rattle.adoption.specs.declared.fault.TableFault.{TableFault}
-use Rattle.adoption.specs.Worksheets.{same_sides, agree, even_chains, line_replays, lines_replay}
-use Rattle.adoption.specs.Tables.{each, unfit, left_before, rises, reduced_at}
+use Rattle.adoption.specs.Worksheets.{even_chains, line_replays, lines_replay}
+use Rattle.adoption.specs.Tables.{each, stated}
 
 -- a rule more
 module _ (test : ℕ → Rule → Bool) (fault : ℕ → TableFault) (t : List Rule) (i : ℕ) where
@@ -39,6 +36,11 @@ module _ (test : ℕ → Rule → Bool) (fault : ℕ → TableFault) (t : List R
     pub each_next : true ≡ test i r → each test fault i (drop i t) ≡ each test fault (i + 1) (drop (i + 1) t)
     each_next e = each_here ∙ rw (← e)
 
+-- a rule whose line stands at a place is stated where its sides are those of the claim
+pub stated_at : (r : Rule) (ls : List Equation) (k : ℕ) (e : Equation) → r.line ≡ k + 1 → nth ls k ≡ Some e
+    → stated r (named ls (pos r.line)) ≡ (alike r.left e.left && alike r.right e.right)
+stated_at r ls k e n h = rw (n, add-one) (rw h)
+
 -- some rule fits where a place is found
 pub search_finds : (i : ℕ) (t : List Rule) (a : Load) → is_some (search i t a) ≡ is_some (fitting t a)
 search_finds i [] a = refl
@@ -54,40 +56,6 @@ turned_test true true fits e h = absurd (false≢true (sym e))
 turned_test true false fits e h = ap not h
 turned_test false true fits e h = ap not h
 turned_test false false fits e h = absurd (false≢true e)
-
--- a left load and the one before it
-pub rises_last : (above : Relation) (t : List Rule) (i : ℕ) (a : Load) (r : Rule) → (i ≡ 0 → ⊥) → i < length t → r ≡ get_or t (i - 1) r → rises above (left_before t i) a ≡ above a r.left
-rises_last above t zero a r n h read = absurd (n refl)
-rises_last above t (suc k) a r n h read =
-    let back : suc k - 1 ≡ k = omega arith in
-    let stands : nth t k ≡ Some r = (rw append-nil at (nth_left t [] k r (omega arith))) ∙ ap Some (sym (rw back at read)) in
-    rw stands
-
--- what is left of a table after a place
-pub rest_all : (t : List Rule) (k : ℕ) → take (length t - k) (drop k t) ≡ drop k t
-rest_all t k = take_all (length t - k) (drop k t) (omega (arith, length-drop k t))
-
--- where a rule rises and contains no left load before it, the rules after it and its right load are left
-pub reduced_after : (above : Relation) (t : List Rule) (i : ℕ) (r : Rule) → true ≡ rises above (left_before t i) r.left → true ≡ unfit (take i t) r.left
-    → (x : Bool) → x ≡ unfit (take (length t - (i + 1)) (drop (i + 1) t)) r.left → reduced_at above t i r ≡ (x && unfit t r.right)
-reduced_after above t i r p q x s = rw (← p, ← q, ← (ap (λ u. unfit u r.left) (rest_all t (i + 1))), ← s)
-
--- an equation more
-module _ (own file : List Equation) (i : ℕ) where
-  pub agree-end : length own ≤ i → length file ≤ i → agree (i + 1) (drop i own) (drop i file) ≡ Ok tt
-  agree-end h g = at_drop_all (λ es. agree (i + 1) es (drop i file)) own i h ∙ at_drop_all (agree (i + 1) []) file i g
-
-  module _ (d e : Equation) (h : i < length own) (g : i < length file) (read : d ≡ get_or own i d) (read' : e ≡ get_or file i e) where
-    agree_here : agree (i + 1) (drop i own) (drop i file) ≡ agree (i + 1) (d ∷ drop (i + 1) own) (e ∷ drop (i + 1) file)
-    agree_here =
-        at_drop_more (λ es. agree (i + 1) es (drop i file)) own i d h ∙ at_drop_more (agree (i + 1) (get_or own i d ∷ drop (i + 1) own)) file i e g
-        ∙ ap₂ (λ x y. agree (i + 1) (x ∷ drop (i + 1) own) (y ∷ drop (i + 1) file)) (sym read) (sym read')
-
-    pub agree_stop : false ≡ same_sides d e → agree (i + 1) (drop i own) (drop i file) ≡ Err (Differs (i + 1))
-    agree_stop s = agree_here ∙ rw (← s)
-
-    pub agree_next : true ≡ same_sides d e → agree (i + 1) (drop i own) (drop i file) ≡ agree (i + 1 + 1) (drop (i + 1) own) (drop (i + 1) file)
-    agree_next s = agree_here ∙ rw (← s)
 
 -- a line more takes its numbers
 module _ (n : ℕ) (ls : List Line) (i left : ℕ) where
@@ -125,9 +93,6 @@ claims-length book before = omega (arith, length-append book (map (λ (l : Line)
 module _ (book : List Equation) (before : List Line) (d : Derivation) where
   abbrev known : List Equation
   known = claims book before
-
-  pub line_lost : (f : ReplayFault) → replay known 1 d.chain d.claim.left ≡ Err f → line_replays known d ≡ Err (Replay (length book + length before + 1) f)
-  line_lost f e = rw (e, claims-length book before)
 
   pub line_elsewhere : (b : Load) → replay known 1 d.chain d.claim.left ≡ Ok b → alike b d.claim.right ≡ false → line_replays known d ≡ Err (Elsewhere (length book + length before + 1))
   line_elsewhere b e s = rw (e, claims-length book before, s)

@@ -15,9 +15,10 @@ fn check_lengths(book: &[Equation], lines: &[Line], numbers: usize) -> Result<()
 {
     let mut left = numbers;
     for (i, line) in lines.iter().enumerate() {
-        left = left
-            .checked_sub(usize::from(line.length))
-            .ok_or(WorksheetFault::Uneven(book.len() + i + 1))?;
+        let Some(rest) = left.checked_sub(usize::from(line.length)) else {
+            return Err(WorksheetFault::Uneven(book.len() + i + 1));
+        };
+        left = rest;
     }
     if left == 0 {
         Ok(())

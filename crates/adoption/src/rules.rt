@@ -7,7 +7,6 @@ use crate::fault::TableFault;
 use loads::Load;
 use orders::order::{Order, higher};
 use rewriting::search::search;
-use worksheet::equation::Equation;
 use worksheet::lines::Lines;
 use worksheet::rule::Rule;
 
@@ -15,14 +14,13 @@ use worksheet::rule::Rule;
 fn is_claimed(lines: &Lines, rule: &Rule) -> bool
     ensures { result ≡ stated rule.now (named (claimed lines.now) (pos rule.now.line)) }
 {
-    let sides = Equation {
-        left: rule.left,
-        right: rule.right,
+    let Some(place) = usize::from(rule.line).checked_sub(1) else {
+        return false;
     };
-    match usize::from(rule.line).checked_sub(1) {
-        Some(place) => lines.claim_at(place) == Some(sides),
-        None => false,
-    }
+    let Some(claim) = lines.claim_at(place) else {
+        return false;
+    };
+    rule.left == claim.left && rule.right == claim.right
 }
 
 // The rules are what their lines claim.

@@ -1,9 +1,10 @@
 -- The presence byte: its size, its bits set, and the bits that two have in common.
-use Rattle.std.proofs.Common.{◌≡◌, ℕ, zero, suc, ◌+◌, ◌-◌, ◌*◌, ◌/◌, ◌%◌, ◌^◌, ◌<◌, ◌≤◌, min, not, eqb, ltb, List, reverse, [], ◌∷◌, length, get_or, drop, Decides, sum_by, sym, refl, ap, ◌∙◌, inl, inr, lt_of_lt_of_le, pow-suc, arith, length-drop, pow_mono}
+use Rattle.std.proofs.Common.{◌≡◌, ℕ, zero, suc, ◌+◌, ◌-◌, ◌*◌, ◌/◌, ◌%◌, ◌^◌, ◌<◌, ◌≤◌, min, not, eqb, ltb, List, reverse, [], ◌∷◌, length, get_or, drop, Decides, sum_by, sym, refl, ap, ap₂, ◌∙◌, inl, inr, lt_of_lt_of_le, pow-suc, arith, length-drop, pow_mono}
 use mir.Val.{bool_byte}
 use lib.Bits.{bit_and, and_step, and_zero_r}
 use lib.Count.{ones, ones_step}
 use Rattle.std.proofs.lemmas.List.{drop_more, get_or-reverse, length-reverse}
+use Rattle.std.proofs.lemmas.Grind.{get_or_default_zero}
 use Rattle.std.proofs.lemmas.List.Sums.{sum_by-cons}
 use Rattle.std.proofs.lemmas.Bool.{cases_lt, lt-ltb}
 use Rattle.std.proofs.lemmas.Bool.Decides.{Decides-eqb, Decides-like, Decides-not}
@@ -38,16 +39,19 @@ pub bit_of : (c : ℕ) → bool_byte (ltb 0 c) ≡ bit c
 bit_of zero = refl
 bit_of (suc c) = ap bool_byte (lt-ltb 0 (suc c) (omega arith))
 
--- one more bit, as a loop from the last count on reads it, which has read n
-pub bits_more : (cs : List ℕ) (n c : ℕ) → n < length (reverse cs) → c ≡ get_or (reverse cs) n c → bits (drop (length cs - (n + 1)) cs) ≡ bit c + 2 * bits (drop (length cs - n) cs)
-bits_more cs n c h is =
+-- one more bit, before the others
+pub bits_more : (cs : List ℕ) (i : ℕ) → i < length cs → bits (drop i cs) ≡ bit (get_or cs i 0) + 2 * bits (drop (i + 1) cs)
+bits_more cs i h = ap bits (drop_more cs i 0 h)
+
+-- the same where a loop goes from the last count on, and has read n
+pub bits_read : (cs : List ℕ) (n c : ℕ) → n < length (reverse cs) → c ≡ get_or (reverse cs) n c → bits (drop (length cs - (n + 1)) cs) ≡ bit c + 2 * bits (drop (length cs - n) cs)
+bits_read cs n c h is =
     let k = length cs - (n + 1) in
     let l : n < length cs = omega (arith, length-reverse cs) in
     let e : k + 1 ≡ length cs - n = omega arith in
     let f : length cs - 1 - n ≡ k = omega arith in
-    ap bits (drop_more cs k c (omega arith))
-    ∙ ap (λ m. bit (get_or cs k c) + 2 * bits (drop m cs)) e
-    ∙ ap (λ m. bit m + 2 * bits (drop (length cs - n) cs)) (sym (is ∙ get_or-reverse cs n c l ∙ ap (λ i. get_or cs i c) f))
+    let read : c ≡ get_or cs k 0 = is ∙ get_or-reverse cs n c l ∙ ap (λ i. get_or cs i c) f ∙ get_or_default_zero cs k c (omega arith) in
+    bits_more cs k (omega arith) ∙ ap₂ (λ m i. bit m + 2 * bits (drop i cs)) (sym read) e
 
 -- the bits set are the kinds
 pub ones-bits : (cs : List ℕ) → ones (bits cs) ≡ sum_by bit cs

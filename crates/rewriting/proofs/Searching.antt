@@ -1,23 +1,11 @@
--- The search: a place more, and the rule at the place found.
-use Rattle.std.proofs.Common.{◌≡◌, ℕ, suc, ◌+◌, ◌<◌, ◌≤◌, Bool, true, false, List, [], ◌∷◌, length, get_or, drop, Some, None, sym, refl, ap, ◌∙◌, arith, drop_of_length-le}
+-- The search is the library's `position`, and what stands at the place found.
+use Rattle.std.proofs.Common.{◌≡◌, ℕ, suc, ◌+◌, Bool, true, false, List, [], ◌∷◌, get_or, Some, None, sym, refl, ap, ◌∙◌, arith}
 use Rattle.std.proofs.lemmas.Iterator.Adapters.{position_from-zero}
 use Rattle.std.specs.List.{position, position_from}
-use Rattle.std.proofs.lemmas.List.{drop_more}
 use Rattle.loads.specs.declared.Load.{Load}
 use Rattle.loads.specs.Tests.{contains}
 use Rattle.worksheet.specs.declared.rule.Rule.{Rule}
 use Rattle.rewriting.specs.Reducing.{fitting, search}
-
--- one place more
-module _ (t : List Rule) (a : Load) (i : ℕ) (d : Rule) (h : i < length t) where
-  pub search_hit : contains a (get_or t i d).left ≡ true → search i (drop i t) a ≡ Some i
-  search_hit e = rw (drop_more t i d h) (rw (e, search))
-
-  pub search_miss : contains a (get_or t i d).left ≡ false → search i (drop i t) a ≡ search (i + 1) (drop (i + 1) t) a
-  search_miss e = rw (drop_more t i d h) (rw (e, search))
-
-pub search-end : (t : List Rule) (a : Load) (i : ℕ) → length t ≤ i → search i (drop i t) a ≡ None
-search-end t a i h = rw (drop_of_length-le t h)
 
 -- the rule at the place found is the first that fits
 record Found (t : List Rule) (a : Load) (i k : ℕ) : Type 0 where

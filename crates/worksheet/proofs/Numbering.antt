@@ -1,8 +1,6 @@
 -- What stands at a place of a row, and the line that a chain number names.
-use Rattle.std.proofs.Common.{◌≡◌, ℕ, zero, suc, ◌-◌, ◌<◌, ◌≤◌, true, false, List, [], ◌∷◌, ◌++◌, map, length, get_or, ℤ, pos, negsuc, nat_abs, Some, None, refl, ap, ◌∙◌, arith}
-use lib.Signed.{lt_z}
-use Rattle.worksheet.specs.declared.equation.Equation.{Equation}
-use Rattle.worksheet.specs.Claims.{nth, turned_about, named}
+use Rattle.std.proofs.Common.{◌≡◌, ℕ, zero, suc, ◌-◌, ◌<◌, ◌≤◌, List, [], ◌∷◌, ◌++◌, map, length, get_or, Some, None, refl, ap, ◌∙◌, arith}
+use Rattle.worksheet.specs.Claims.{nth}
 
 -- past the end there is nothing
 pub nth-none : {X : Type 0} (xs : List X) (n : ℕ) → length xs ≤ n → nth xs n ≡ None
@@ -26,21 +24,3 @@ pub nth-map : {X Y : Type 0} (f : X → Y) (xs : List X) (n : ℕ) (d : X) → n
 nth-map f [] n d h = absurd (omega arith)
 nth-map f (x ∷ xs) zero d h = refl
 nth-map f (x ∷ xs) (suc n) d h = nth-map f xs n d (omega arith)
-
--- 0 names no line
-pub named_zero : (ls : List Equation) (k : ℤ) → nat_abs k ≡ 0 → named ls k ≡ None
-named_zero ls (pos zero) h = refl
-named_zero ls (pos (suc n)) h = absurd (omega arith)
-named_zero ls (negsuc n) h = absurd (omega arith)
-
--- a number above 0 names its line forward
-pub named_ahead : (ls : List Equation) (k : ℤ) → lt_z (pos 0) k ≡ true → named ls k ≡ nth ls (nat_abs k - 1)
-named_ahead ls (pos zero) h = let z : ◌≡◌ {A = ℕ} 0 1 = cc in absurd (omega arith)
-named_ahead ls (pos (suc n)) h = ap (nth ls) (omega arith)
-named_ahead ls (negsuc n) h = let z : ◌≡◌ {A = ℕ} 0 1 = cc in absurd (omega arith)
-
--- a number below 0 names its line backward
-pub named_back : (ls : List Equation) (k : ℤ) → lt_z (pos 0) k ≡ false → ¬ (nat_abs k ≡ 0) → named ls k ≡ turned_about (nth ls (nat_abs k - 1))
-named_back ls (pos zero) h n = absurd (n refl)
-named_back ls (pos (suc n)) h m = let z : ◌≡◌ {A = ℕ} 0 1 = grind arith in absurd (omega arith)
-named_back ls (negsuc n) h m = ap (λ i. turned_about (nth ls i)) (omega arith)

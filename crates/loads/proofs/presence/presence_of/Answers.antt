@@ -3,7 +3,7 @@ use Rattle.std.proofs.lemmas.List.{drop_all, length_push, length-reverse}
 use Rattle.std.proofs.lemmas.Iterator.Adapters.{YieldsList-from_rev_slice}
 use Rattle.std.proofs.lemmas.Iterator.Consumers.{YieldsList-turn, YieldsList-end}
 use Rattle.loads.specs.Bits.{bits}
-use Rattle.loads.proofs.Bits.{bit_le, bits-few, bit_of, bits_more}
+use Rattle.loads.proofs.Bits.{bit_le, bits-few, bit_of, bits_read}
 use Rattle.loads.proofs.presence.presence_of.Goals as goal
 
 pub loop-count-init : goal.loop-count-init
@@ -25,7 +25,7 @@ loop-count-preserved c =
     let cs = c.args.counts.now in
     let n = length c.loop-count.yielded in
     let t = YieldsList-turn (YieldsList-from_rev_slice cs cc) c.loop-count.yielded _ c.loop-count.yielded_by _ _ c.in-Some.count c.in-Some.is c.next.ensures.steps in
-    let more = bits_more cs n c.in-Some.count.now t.0 t.1 in
+    let more = bits_read cs n c.in-Some.count.now t.0 t.1 in
     let long = length-reverse cs in
     rw length_push (omega arith, omega (arith, bit_of c.in-Some.count.now))
 
