@@ -33,10 +33,10 @@ impl FileFault {
         ensures { result ≡ place self.now }
     {
         match *self {
-            FileFault::Header(at) => at,
-            FileFault::Offset(at) => at,
-            FileFault::Record(at) => at,
-            FileFault::ZeroCount(at) => at,
+            FileFault::Header(at)
+            | FileFault::Offset(at)
+            | FileFault::Record(at)
+            | FileFault::ZeroCount(at) => at,
         }
     }
 }
