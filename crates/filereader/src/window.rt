@@ -70,5 +70,5 @@ impl<'a, R> Window<'a, R> {
 }
 
 // A row has no room for what is to be read into it.
-#[derive(Clone, Copy)]
+#[derive(Clone, Copy, PartialEq, Eq, Debug)]
 pub struct NoRoom;
