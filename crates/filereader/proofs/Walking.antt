@@ -1,5 +1,5 @@
 -- Steps of going through a section.
-use Rattle.std.proofs.Common.{◌≡◌, ℕ, zero, suc, ◌+◌, ◌-◌, ◌<◌, ◌≤◌, false, ◌⊎◌, List, [], ◌∷◌, map, length, drop, Some, None, Ok, Err, Option, is_some, sym, refl, ap, ◌∙◌, inl, inr, arith}
+use Rattle.std.proofs.Common.{◌≡◌, ℕ, zero, suc, ◌+◌, ◌-◌, ◌<◌, ◌≤◌, false, ◌⊎◌, List, [], ◌∷◌, map, length, Some, None, Ok, Err, Option, is_some, sym, refl, ap, ◌∙◌, inl, inr, arith}
 use Rattle.std.specs.Option.{option_map}
 use Rattle.std.proofs.lemmas.Bool.{le-leb, lt-leb, eq-eqb, ne_eqb, cases_lt}
 use Rattle.loads.specs.Answers.{◌>>=◌}
@@ -149,13 +149,3 @@ zero_none size zeros s none = ap (zero_free_in (zeros s.bytes)) (sym none)
 -- the values that are left, one record on
 pub values_step : {X : Type 0} (size : List ℕ → ℕ → ℕ) (value : List ℕ → ℕ → X) (s t : Section) (at : ℕ) → places size s ≡ at ∷ places size t → t.bytes ≡ s.bytes → values size value s ≡ value s.bytes at ∷ values size value t
 values_step size value s t at e same = ap (map (value s.bytes)) e ∙ (λ i. value s.bytes at ∷ map (value (sym same i)) (places size t))
-
--- a row by its first element
-pub first_of : {X : Type 0} (x : X) (xs : List X) → Some x ≡ nth xs 0 → xs ≡ x ∷ drop 1 xs
-first_of x [] e = let z : ◌≡◌ {A = ℕ} 0 1 = cc in absurd (omega arith)
-first_of x (y ∷ ys) e = let same : y ≡ x = cc in ap (λ z. z ∷ ys) same
-
--- a row without one
-pub none_of : {X : Type 0} (xs : List X) → None ≡ nth xs 0 → xs ≡ []
-none_of [] e = refl
-none_of (y ∷ ys) e = let z : ◌≡◌ {A = ℕ} 0 1 = cc in absurd (omega arith)

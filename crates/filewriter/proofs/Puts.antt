@@ -46,10 +46,6 @@ written_end at out rest all h none so = sym (take_all at out h) ∙ sym (append-
 pub row-rest : {W : Type 0} (bytes : W → List ℕ) (row : List W) (i : ℕ) (x : W) → i < length row → x ≡ get_or row i x → flat_map bytes (drop i row) ≡ bytes x ++ flat_map bytes (drop (i + 1) row)
 row-rest bytes row i x within is = ap (flat_map bytes) (drop_more row i x within) ∙ ap (λ y. bytes y ++ flat_map bytes (drop (i + 1) row)) (sym is)
 
--- none is left
-pub row-none : {W : Type 0} (bytes : W → List ℕ) (row : List W) (i : ℕ) → length row ≤ i → flat_map bytes (drop i row) ≡ []
-row-none bytes row i h = ap (flat_map bytes) (drop_all i row h)
-
 -- the counts that are left, where the first of them is there or not
 module _ (cs : List ℕ) (i c : ℕ) (within : i < length cs) (is : c ≡ get_or cs i 0) where
   counts-rest : counts_bytes (drop i cs) ≡ count_bytes c ++ counts_bytes (drop (i + 1) cs)

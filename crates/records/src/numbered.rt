@@ -2,7 +2,8 @@
 ghost use Rattle.std.specs.Prelude.{◌≡◌, ◌+◌, ◌<◌, ◌≤◌, ℕ, length, MatchOption};
 ghost use Rattle.worksheet.specs.declared.equation.Equation.{Equation};
 ghost use Rattle.swapfile.specs.Bytes.{number_at};
-ghost use Rattle.swapfile.specs.Equations.{equation_item, equation_at};
+ghost use Rattle.swapfile.specs.Equations.{equation_at};
+ghost use Rattle.swapfile.specs.Numbered.{numbered_size, numbered_item};
 ghost use Rattle.swapfile.specs.Sides.{sides_size, sides_zero};
 ghost use Rattle.std.proofs.Common.{rules};
 
@@ -12,7 +13,7 @@ use crate::sides::Sides;
 use swapfile::items::{Found, NumberedItem};
 use worksheet::equation::Equation;
 
-// What two loads and a number make.
+// What two loads and a number make. A `From` of them would have to stand in `worksheet`, which knows nothing of files.
 pub trait Numbered: Copy {
     // The value of them.
     ghost of: { Equation → ℕ → Self };
@@ -33,7 +34,7 @@ struct Parts<'a> {
 impl<'a> Parts<'a> {
     // Those of which the left load begins at a byte, if the bytes hold them all.
     fn find(bytes: &'a [u8], at: usize) -> Option<Parts<'a>>
-        ensures { MatchOption result (length bytes.now < at + (sides_size bytes.now at + 2)) (λ x. (x.sides.left.bytes.now ≡ bytes.now) × (x.sides.left.at ≡ at)) }
+        ensures { MatchOption result (length bytes.now < at + numbered_size bytes.now at) (λ x. (x.sides.left.bytes.now ≡ bytes.now) × (x.sides.left.at ≡ at)) }
     {
         let sides = Sides::find(bytes, at)?;
         let number = read_number(bytes, sides.right.end)?;
@@ -48,11 +49,11 @@ impl<N: Numbered> Record for N {
 
     ghost SMALLEST = { 4 };
 
-    ghost size = { λ b at. sides_size b at + 2 };
+    ghost size = { numbered_size };
 
     ghost zeros = { sides_zero };
 
-    ghost item = { λ b at. record { sides = equation_item b at; number = number_at b (at + sides_size b at) } };
+    ghost item = { numbered_item };
 
     ghost value = { λ b at. N.of (equation_at b at) (number_at b (at + sides_size b at)) };
 

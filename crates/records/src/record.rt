@@ -5,7 +5,8 @@ ghost use Rattle.records.specs.Records.{found};
 
 use swapfile::items::Found;
 
-// A kind of record: what stands in a file for a value.
+// A kind of record: what stands in a file for a value. A place is told as to `get`, by the bytes and an index in them: a type of the two would be no
+// plainer, and what holds of them is kept by the loads that are found there.
 pub trait Record: Copy {
     // What a record says, by places of the file and by numbers.
     type Item: Copy;

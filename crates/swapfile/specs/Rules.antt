@@ -2,11 +2,9 @@
 use Rattle.std.specs.Prelude.{ℕ, ◌+◌, Bool, ◌&&◌, List, ◌++◌, nat_le}
 use Rattle.loads.specs.Tests.{fits}
 use Rattle.worksheet.specs.declared.rule.Rule.{Rule}
-use Rattle.swapfile.specs.declared.items.NumberedItem.{NumberedItem}
 use Rattle.swapfile.specs.Bytes.{number_at, number_bytes}
 use Rattle.swapfile.specs.StoredLoads.{load_at}
 use Rattle.swapfile.specs.Sides.{sides_bytes, sides_size, right_at}
-use Rattle.swapfile.specs.Equations.{equation_item}
 
 -- its bytes
 abbrev pub rule_bytes : Rule → List ℕ
@@ -15,10 +13,6 @@ rule_bytes r = sides_bytes r.left r.right ++ number_bytes r.line
 -- how many there are, where it begins at a byte
 abbrev pub rule_size : List ℕ → ℕ → ℕ
 rule_size b at = sides_size b at + 2
-
--- where its loads stand, and its line
-abbrev pub rule_item : List ℕ → ℕ → NumberedItem
-rule_item b at = record { sides = equation_item b at; number = number_at b (at + sides_size b at) }
 
 -- the rule itself
 abbrev pub rule_at : List ℕ → ℕ → Rule

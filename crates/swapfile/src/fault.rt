@@ -16,7 +16,7 @@ pub enum FileFault {
 }
 
 impl FileFault {
-    // The number under which the fault is told.
+    // The number under which the fault is told: these numbers are the format's.
     pub fn number(&self) -> u8
         ensures { result ≡ number self.now }
     {

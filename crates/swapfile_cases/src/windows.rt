@@ -42,9 +42,15 @@ fn told(found: Found<NumberedItem>) -> ([usize; 4], u16) {
 }
 
 #[test]
-fn rules_and_lines_tell_their_bytes(rt: HostRuntime) -> Result<(), Fail> {
+fn rules_tell_their_bytes(rt: HostRuntime) -> Result<(), Fail> {
     let mut reader = Reader::open(WORKED)?;
     assert_eq!(rt; reader.rules.next().map(told), Some(([22, 22, 25, 30], 2)));
+    Ok(())
+}
+
+#[test]
+fn lines_tell_their_bytes(rt: HostRuntime) -> Result<(), Fail> {
+    let mut reader = Reader::open(WORKED)?;
     assert_eq!(rt; reader.lines.next().map(told), Some(([30, 30, 33, 38], 1)));
     Ok(())
 }

@@ -1,18 +1,10 @@
-use Rattle.std.proofs.Common.{◌≡◌, ◌+◌, ◌*◌, ◌%◌, set, sym, refl, ap, ◌∙◌, arith}
-use Rattle.std.proofs.lemmas.List.{get_or-replicate}
-use lib.Count.{ones_step}
+use Rattle.std.proofs.Common.{◌≡◌, ◌+◌, ◌*◌, ◌%◌, set, sym, ap, ◌∙◌, arith}
 use Rattle.loads.specs.Loads.{of_counts}
 use Rattle.swapfile.specs.Bytes.{number_at}
 use Rattle.swapfile.specs.StoredLoads.{load_at, if_set}
 use Rattle.records.proofs.Loads.{counts_more, counts_end}
 use Rattle.records.proofs.stored_load.StoredLoad.read.Goals as goal
 use Rattle.records.proofs.stored_load.StoredLoad.read.Goals.{then-left-eq1, else-left-eq1}
-
-pub loop-count-init : goal.loop-count-init
-loop-count-init c = record { long = refl; within = omega (arith, c.args.self.now.sized, c.args.self.now.within); unread = λ k _ eight. get_or-replicate 8 k 0 0 eight; are = refl }
-
-pub overflow_add-place-then-left-eq1 : goal.overflow_add-place-then-left-eq1
-overflow_add-place-then-left-eq1 c = record { fits = omega (arith, ones_step c.loop-count.left, c.loop-count.invariant.within) }
 
 pub loop-count-preserved : goal.loop-count-preserved
 loop-count-preserved c =

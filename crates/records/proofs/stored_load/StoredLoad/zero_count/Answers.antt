@@ -1,14 +1,7 @@
-use Rattle.std.proofs.Common.{◌≡◌, ◌+◌, ◌-◌, ◌/◌, get_or, ap, ◌∙◌, arith}
-use lib.Count.{ones}
+use Rattle.std.proofs.Common.{◌≡◌, ◌+◌, ◌-◌, ◌/◌, ap, ◌∙◌, arith}
 use Rattle.swapfile.specs.StoredLoads.{zero_from}
 use Rattle.records.proofs.Loads.{zero_here, zero_more, zero_end}
 use Rattle.records.proofs.stored_load.StoredLoad.zero_count.Goals as goal
-
-pub loop-place-init : goal.loop-place-init
-loop-place-init c =
-    let s = c.args.self.now in
-    let all : (s.end - (s.at + 1)) / 2 ≡ ones (get_or s.bytes.now s.at 0) = omega (arith, s.sized) in
-    (omega (arith, s.sized), ap (λ n. zero_from s.bytes.now n (s.at + 1)) all)
 
 pub returns-then-number_at-eq0 : goal.returns-then-number_at-eq0
 returns-then-number_at-eq0 c =
