@@ -7,11 +7,6 @@ use Rattle.swapfile.specs.declared.items.Found.{Found}
 use Rattle.swapfile.specs.Sections.{Section, places}
 use Rattle.records.specs.Records.{found}
 use Rattle.filereader.specs.declared.window.NoRoom.{NoRoom}
-use Rattle.filereader.specs.declared.window.Window.{Window}
-
--- the section that a window shows
-abbrev pub shown : {R : Type 0} → Window R → Section
-shown w = record { bytes = w.bytes.now; start = w.start; count = w.count }
 
 module _ (size : List ℕ → ℕ → ℕ) where
   -- the first record of a section, if it has one

@@ -1,5 +1,8 @@
 // Readers of a file.
+ghost use Rattle.swapfile.specs.Layout.{Layout};
+
 use crate::window::Window;
+use std::marker::Model;
 use worksheet::equation::Equation;
 use worksheet::line::Line;
 use worksheet::rule::Rule;
@@ -11,4 +14,11 @@ pub struct Reader<'a> {
     pub rules: Window<'a, Rule>,
     pub lines: Window<'a, Line>,
     pub chain: Window<'a, i16>,
+}
+
+// To a contract a reader is the sections that its windows show.
+impl<'a> Model for Reader<'a> {
+    ghost Value = { Layout };
+
+    ghost view = { λ r. record { equations = r.equations; rules = r.rules; lines = r.lines; chain = r.chain } };
 }

@@ -1,17 +1,11 @@
 -- How many bytes records take.
-use Rattle.std.proofs.Common.{◌≡◌, ℕ, zero, suc, ◌+◌, ◌*◌, length, refl, arith}
+use Rattle.std.proofs.Common.{◌≡◌, ◌+◌, ◌*◌, length, arith}
 use Rattle.loads.specs.declared.Load.{Load}
 use Rattle.loads.specs.Presence.{kinds}
 use Rattle.loads.proofs.Bits.{ones-bits}
-use Rattle.swapfile.specs.Bytes.{number_bytes}
-use Rattle.swapfile.specs.StoredLoads.{count_bytes, load_bytes}
+use Rattle.swapfile.specs.StoredLoads.{load_bytes}
 use Rattle.swapfile.proofs.LoadTrip.{counts_long}
 
 -- a load: two for each kind, and its presence byte
 pub load_long : (x : Load) → length (load_bytes x) ≡ 1 + 2 * kinds x
 load_long x = omega (arith, counts_long x.counts, ones-bits x.counts)
-
--- a count that is there
-pub count-some : (c : ℕ) → (c ≡ 0 → ⊥) → count_bytes c ≡ number_bytes c
-count-some zero h = absurd (h refl)
-count-some (suc c) h = refl

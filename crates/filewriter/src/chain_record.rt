@@ -1,18 +1,15 @@
 // The record of a chain number: two bytes, in two's complement.
-ghost use Rattle.swapfile.specs.ChainNumbers.{chain_number_bytes};
+ghost use Rattle.std.proofs.Common.{of_z};
+ghost use Rattle.std.specs.Int.{w16};
 
-use crate::numbers::write_number;
-use crate::written::Written;
+use crate::parts::Parted;
 
-impl Written for i16 {
-    ghost bytes = { chain_number_bytes };
+impl Parted for i16 {
+    type Parts = u16;
 
-    fn size(&self) -> usize {
-        2
-    }
+    ghost parts = { of_z w16 };
 
-    fn write(&self, out: &mut [u8], at: usize) -> usize {
-        write_number(out, at, self.cast_unsigned());
-        at + 2
+    fn parts(&self) -> u16 {
+        self.cast_unsigned()
     }
 }

@@ -38,10 +38,11 @@ pub fn write_file(
         chain.len() as u16,
     ];
     let offsets = [16, rules_at as u16, lines_at as u16, chain_at as u16];
-    let at = write_row(out, 0, &counts);
-    let at = write_row(out, at, &offsets);
-    let at = write_row(out, at, equations);
-    let at = write_row(out, at, rules);
-    let at = write_row(out, at, lines);
-    Ok(write_row(out, at, chain))
+    write_row(&mut out[0..8], &counts);
+    write_row(&mut out[8..16], &offsets);
+    write_row(&mut out[16..rules_at], equations);
+    write_row(&mut out[rules_at..lines_at], rules);
+    write_row(&mut out[lines_at..chain_at], lines);
+    write_row(&mut out[chain_at..end], chain);
+    Ok(end)
 }

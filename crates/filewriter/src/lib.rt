@@ -7,7 +7,7 @@ pub mod fault;
 pub mod file;
 mod line_record;
 mod numbers;
+mod parts;
 mod rule_record;
-mod sides;
 mod stored_load;
 mod written;

@@ -1,21 +1,14 @@
 // The record of a rule: its two loads and the number of its line.
-ghost use Rattle.swapfile.specs.Rules.{rule_bytes};
-
-use crate::numbers::write_number;
-use crate::sides::{sides_size, write_sides};
-use crate::written::Written;
+use crate::parts::Parted;
+use loads::Load;
 use worksheet::rule::Rule;
 
-impl Written for Rule {
-    ghost bytes = { rule_bytes };
+impl Parted for Rule {
+    type Parts = ((Load, Load), u16);
 
-    fn size(&self) -> usize {
-        sides_size(&self.left, &self.right) + 2
-    }
+    ghost parts = { λ r. ((r.left, r.right), r.line) };
 
-    fn write(&self, out: &mut [u8], at: usize) -> usize {
-        let after = write_sides(out, at, &self.left, &self.right);
-        write_number(out, after, self.line);
-        after + 2
+    fn parts(&self) -> ((Load, Load), u16) {
+        ((self.left, self.right), self.line)
     }
 }

@@ -1,30 +1,27 @@
-// What can be written into a file, one behind the other.
-ghost use Rattle.std.specs.Prelude.{◌≡◌, ℕ, ◌+◌, ◌*◌, ◌≤◌, List, length};
+// What can be written into a file.
+ghost use Rattle.std.specs.Prelude.{◌≡◌, ℕ, ◌<◌, ◌^◌, List, length};
 ghost use Rattle.std.specs.List.{flat_map};
-ghost use Rattle.filewriter.specs.Putting.{put};
 
-// A kind of record that is written.
+// A part of a file: a number, a load, or a record that is made of such.
 pub(crate) trait Written {
-    // The bytes of a record.
+    // Its bytes.
     ghost bytes: { Self → List ℕ };
 
-    // How many bytes the record takes.
+    // How many they are.
     fn size(&self) -> usize
-        ensures value { result ≡ length (bytes self.now) }
-        ensures bound { result ≤ 36 };
+        requires { length (bytes self.now) < 2 ^ 64 }
+        ensures { result ≡ length (bytes self.now) };
 
-    // Writes the record, and tells the byte behind it.
-    fn write(&self, out: &mut [u8], at: usize) -> usize
-        requires { at + length (bytes self.now) ≤ length out.old }
-        ensures after { result ≡ at + length (bytes self.now) }
-        ensures bytes { out.new ≡ put out.old at (bytes self.now) };
+    // Fills a buffer of that length with them.
+    fn write(&self, out: &mut [u8])
+        requires { length out.old ≡ length (bytes self.now) }
+        ensures { out.new ≡ bytes self.now };
 }
 
-// How many bytes a row of records takes.
+// How many bytes a row takes.
 pub(crate) fn total<W: Written>(row: &[W]) -> usize
-    requires { length row.now ≤ 65535 }
-    ensures value { result ≡ length (flat_map W.Written.bytes row.now) }
-    ensures bound { result ≤ 36 * length row.now }
+    requires { length (flat_map W.bytes row.now) < 2 ^ 64 }
+    ensures { result ≡ length (flat_map W.bytes row.now) }
 {
     let mut sum = 0;
     for x in row {
@@ -33,15 +30,15 @@ pub(crate) fn total<W: Written>(row: &[W]) -> usize
     sum
 }
 
-// Writes a row of records, and tells the byte behind it.
-pub(crate) fn write_row<W: Written>(out: &mut [u8], at: usize, row: &[W]) -> usize
-    requires { at + length (flat_map W.Written.bytes row.now) ≤ length out.old }
-    ensures after { result ≡ at + length (flat_map W.Written.bytes row.now) }
-    ensures bytes { out.new ≡ put out.old at (flat_map W.Written.bytes row.now) }
+// Fills a buffer of that length with a row, one behind the other.
+pub(crate) fn write_row<W: Written>(out: &mut [u8], row: &[W])
+    requires { length out.old ≡ length (flat_map W.bytes row.now) }
+    ensures { out.new ≡ flat_map W.bytes row.now }
 {
-    let mut place = at;
+    let mut at = 0;
     for x in row {
-        place = x.write(out, place);
+        let end = at + x.size();
+        x.write(&mut out[at..end]);
+        at = end;
     }
-    place
 }

@@ -11,7 +11,7 @@ impl Record for i16 {
 
     const SMALLEST: usize = 2;
 
-    ghost least = { 2 };
+    ghost SMALLEST = { 2 };
 
     ghost size = { chain_number_size };
 
@@ -22,10 +22,6 @@ impl Record for i16 {
     ghost value = { chain_number_at };
 
     ghost enough = { Prim.search rules };
-
-    fn too_few(room: usize) -> bool {
-        room < Self::SMALLEST
-    }
 
     fn read(bytes: &[u8], at: usize) -> Option<Found<i16>> {
         let number = read_number(bytes, at)?;

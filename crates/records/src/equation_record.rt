@@ -4,7 +4,7 @@ ghost use Rattle.swapfile.specs.Sides.{sides_zero};
 ghost use Rattle.std.proofs.Common.{rules};
 
 use crate::record::Record;
-use crate::sides::{read_sides, sides_at, zero_in_sides};
+use crate::sides::Sides;
 use swapfile::items::{EquationItem, Found};
 use worksheet::equation::Equation;
 
@@ -13,7 +13,7 @@ impl Record for Equation {
 
     const SMALLEST: usize = 2;
 
-    ghost least = { 2 };
+    ghost SMALLEST = { 2 };
 
     ghost size = { equation_size };
 
@@ -25,29 +25,21 @@ impl Record for Equation {
 
     ghost enough = { Prim.search rules };
 
-    fn too_few(room: usize) -> bool {
-        room < Self::SMALLEST
-    }
-
     fn read(bytes: &[u8], at: usize) -> Option<Found<EquationItem>> {
-        let sides = sides_at(bytes, at)?;
+        let sides = Sides::find(bytes, at)?;
         Some(Found {
             byte: at,
-            item: EquationItem {
-                left: at,
-                right: sides.right,
-            },
-            end: sides.end,
+            item: sides.item(),
+            end: sides.right.end,
         })
     }
 
     fn zero_count(bytes: &[u8], at: usize) -> Option<usize> {
-        let sides = sides_at(bytes, at)?;
-        zero_in_sides(bytes, at, sides.right)
+        Sides::find(bytes, at)?.zero_count()
     }
 
     fn value(bytes: &[u8], at: usize) -> Option<Equation> {
-        let sides = sides_at(bytes, at)?;
-        Some(read_sides(bytes, at, sides.right))
+        let sides = Sides::find(bytes, at)?;
+        Some(sides.read())
     }
 }

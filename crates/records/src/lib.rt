@@ -4,6 +4,7 @@
 pub mod chain_record;
 pub mod equation_record;
 pub mod line_record;
+mod numbered;
 pub mod numbers;
 pub mod record;
 pub mod rule_record;

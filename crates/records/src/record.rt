@@ -5,7 +5,8 @@ ghost use Rattle.records.specs.Records.{found};
 
 use swapfile::items::Found;
 
-// A kind of record: what stands in a file for a value.
+// A kind of record: what stands in a file for a value. A place is told as to `get`, by the bytes and an index in them: a type of the two would be no
+// plainer, and what holds of them is kept by the loads that are found there.
 pub trait Record: Copy {
     // What a record says, by places of the file and by numbers.
     type Item: Copy;
@@ -13,8 +14,8 @@ pub trait Record: Copy {
     // The fewest bytes that a record takes.
     const SMALLEST: usize;
 
-    // The same number, since in generic code a constant has no value in the logic.
-    ghost least: { ℕ };
+    // The same number, for clauses.
+    ghost SMALLEST: { ℕ };
 
     // How many bytes the record takes that begins at a byte.
     ghost size: { List ℕ → ℕ → ℕ };
@@ -30,7 +31,10 @@ pub trait Record: Copy {
 
     // Whether so many bytes are too few for any record of the kind.
     fn too_few(room: usize) -> bool
-        ensures { result ≡ nat_lt room least };
+        ensures { result ≡ nat_lt room SMALLEST }
+    {
+        room < Self::SMALLEST
+    }
 
     // The record that begins at a byte, if the bytes hold all of it.
     fn read(bytes: &[u8], at: usize) -> Option<Found<Self::Item>>
@@ -44,5 +48,5 @@ pub trait Record: Copy {
     fn value(bytes: &[u8], at: usize) -> Option<Self>
         ensures { result ≡ held size bytes.now at (Some (value bytes.now at)) };
 
-    ghost enough: { (b : List ℕ) (at : ℕ) → least ≤ size b at };
+    ghost enough: { (b : List ℕ) (at : ℕ) → SMALLEST ≤ size b at };
 }

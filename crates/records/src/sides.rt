@@ -1,48 +1,55 @@
 // Two loads in a file, one behind the other: the sides of an equation, a rule or a line.
-ghost use Rattle.std.specs.Prelude.{◌≡◌, ◌+◌, ◌≤◌, length, Some, None};
-ghost use Rattle.swapfile.specs.Sections.{held};
-ghost use Rattle.swapfile.specs.Equations.{equation_at};
-ghost use Rattle.swapfile.specs.Sides.{right_at, sides_size, sides_zero};
+ghost use Rattle.std.specs.Prelude.{◌≡◌, ◌+◌, ◌<◌, ◌≤◌, length, MatchOption};
+ghost use Rattle.swapfile.specs.Equations.{equation_at, equation_item};
+ghost use Rattle.swapfile.specs.Sides.{sides_size, sides_zero};
 
-use crate::stored_load::{load_end, read_load, zero_in_load};
+use crate::stored_load::StoredLoad;
+use swapfile::items::EquationItem;
 use worksheet::equation::Equation;
 
-// Where the right load of two begins, and the byte behind it.
+// Two loads that the bytes hold, of which the right begins behind the left.
 #[derive(Clone, Copy)]
-pub(crate) struct Sides {
-    pub right: usize,
-    pub end: usize,
+pub(crate) struct Sides<'a> {
+    left: StoredLoad<'a>,
+    pub right: StoredLoad<'a>,
+    ghost same: { right.bytes.now ≡ left.bytes.now },
+    ghost behind: { right.at ≡ left.end },
 }
 
-// Two loads of which the left begins at a byte, if the bytes hold both.
-pub(crate) fn sides_at(bytes: &[u8], at: usize) -> Option<Sides>
-    ensures { result ≡ held sides_size bytes.now at (Some (record { right = right_at bytes.now at; «end» = at + sides_size bytes.now at })) }
-{
-    let right = load_end(bytes, at)?;
-    let end = load_end(bytes, right)?;
-    Some(Sides { right, end })
-}
-
-// The two loads.
-pub(crate) fn read_sides(bytes: &[u8], left: usize, right: usize) -> Equation
-    requires within { left + sides_size bytes.now left ≤ length bytes.now }
-    requires behind { right ≡ right_at bytes.now left }
-    ensures { result ≡ equation_at bytes.now left }
-{
-    Equation {
-        left: read_load(bytes, left),
-        right: read_load(bytes, right),
+impl<'a> Sides<'a> {
+    // Two loads of which the left begins at a byte, if the bytes hold both.
+    pub fn find(bytes: &'a [u8], at: usize) -> Option<Sides<'a>>
+        ensures { MatchOption result (length bytes.now < at + sides_size bytes.now at) (λ x. (x.left.bytes.now ≡ bytes.now) × (x.left.at ≡ at)) }
+    {
+        let left = StoredLoad::find(bytes, at)?;
+        let right = StoredLoad::find(bytes, left.end)?;
+        Some(Sides { left, right })
     }
-}
 
-// The byte of their first present count that is 0.
-pub(crate) fn zero_in_sides(bytes: &[u8], left: usize, right: usize) -> Option<usize>
-    requires within { left + sides_size bytes.now left ≤ length bytes.now }
-    requires behind { right ≡ right_at bytes.now left }
-    ensures { result ≡ sides_zero bytes.now left }
-{
-    match zero_in_load(bytes, left) {
-        Some(place) => Some(place),
-        None => zero_in_load(bytes, right),
+    // Where they begin.
+    pub fn item(&self) -> EquationItem
+        ensures { result ≡ equation_item self.now.left.bytes.now self.now.left.at }
+    {
+        EquationItem {
+            left: self.left.at,
+            right: self.right.at,
+        }
+    }
+
+    // The two loads.
+    pub fn read(&self) -> Equation
+        ensures { result ≡ equation_at self.now.left.bytes.now self.now.left.at }
+    {
+        Equation {
+            left: self.left.read(),
+            right: self.right.read(),
+        }
+    }
+
+    // The byte of their first present count that is 0.
+    pub fn zero_count(&self) -> Option<usize>
+        ensures { result ≡ sides_zero self.now.left.bytes.now self.now.left.at }
+    {
+        self.left.zero_count().or(self.right.zero_count())
     }
 }

@@ -1,5 +1,5 @@
 -- What is written for a content within the limits is a row of bytes, and each record is short.
-use Rattle.std.proofs.Common.{◌≡◌, ℕ, zero, suc, ◌*◌, ◌<◌, ◌≤◌, true, List, [], ◌∷◌, ◌++◌, length, get_or, ℤ, pos, negsuc, inl, inr, arith, length-append, w16, of_z}
+use Rattle.std.proofs.Common.{◌≡◌, ℕ, zero, suc, ◌*◌, ◌<◌, ◌≤◌, true, ◌&&◌, nat_le, List, [], ◌∷◌, ◌++◌, length, get_or, ℤ, pos, negsuc, inl, inr, arith, length-append, w16, of_z}
 use lib.Count.{ones-le}
 use Rattle.std.specs.List.{flat_map, AllByRecursion as All}
 use Rattle.std.proofs.lemmas.Bool.{and_parts, leb-true, cases_lt}
@@ -15,7 +15,6 @@ use Rattle.worksheet.specs.declared.line.Line.{Line}
 use Rattle.worksheet.specs.declared.rule.Rule.{Rule}
 use Rattle.swapfile.specs.Bytes.{Bytes, number_bytes}
 use Rattle.swapfile.specs.StoredLoads.{counts_bytes, load_bytes}
-use Rattle.swapfile.specs.Sides.{sides_bytes}
 use Rattle.swapfile.specs.Equations.{equation_bytes, equation_fits}
 use Rattle.swapfile.specs.Rules.{rule_bytes, rule_fits}
 use Rattle.swapfile.specs.Lines.{line_bytes, line_fits}
@@ -38,12 +37,15 @@ load_short x = omega (arith, counts_long x.counts, ones-le 8 (presence x) (prese
 pub equation_short : (e : Equation) → length (equation_bytes e) ≤ 34
 equation_short e = omega (arith, length-append (load_bytes e.left) (load_bytes e.right), load_short e.left, load_short e.right)
 
--- a rule and a line at most 36
+-- and with a number behind it, as a rule or a line, at most 36
+numbered_short : (e : Equation) (n : ℕ) → length (equation_bytes e ++ number_bytes n) ≤ 36
+numbered_short e n = omega (arith, length-append (equation_bytes e) (number_bytes n), equation_short e)
+
 pub rule_short : (r : Rule) → length (rule_bytes r) ≤ 36
-rule_short r = omega (arith, length-append (sides_bytes r.left r.right) (number_bytes r.line), equation_short (record { left = r.left; right = r.right }))
+rule_short r = numbered_short (record { left = r.left; right = r.right }) r.line
 
 pub line_short : (l : Line) → length (line_bytes l) ≤ 36
-line_short l = omega (arith, length-append (equation_bytes l.claim) (number_bytes l.length), equation_short l.claim)
+line_short l = numbered_short l.claim l.length
 
 -- a section as many times as it has records
 pub joined_short : {X : Type 0} (write : X → List ℕ) (most : ℕ) → ((x : X) → length (write x) ≤ most) → (xs : List X) → length (flat_map write xs) ≤ length xs * most
@@ -81,15 +83,14 @@ load_narrow x f (suc i) = counts_narrow x.counts (small x f) i
 equation_narrow : (e : Equation) → equation_fits e ≡ true → Bytes (equation_bytes e)
 equation_narrow e f = let p = and_parts _ _ f in append_narrow (load_bytes e.left) (load_bytes e.right) (load_narrow e.left p.0) (load_narrow e.right p.1)
 
+numbered_narrow : (e : Equation) (n : ℕ) → (equation_fits e && nat_le n 65535) ≡ true → Bytes (equation_bytes e ++ number_bytes n)
+numbered_narrow e n f = let p = and_parts _ _ f in append_narrow (equation_bytes e) (number_bytes n) (equation_narrow e p.0) (number_narrow n (omega (arith, leb-true _ _ p.1)))
+
 rule_narrow : (r : Rule) → rule_fits r ≡ true → Bytes (rule_bytes r)
-rule_narrow r f =
-    let p = and_parts _ _ f in
-    append_narrow (sides_bytes r.left r.right) (number_bytes r.line) (equation_narrow (record { left = r.left; right = r.right }) p.0) (number_narrow r.line (omega (arith, leb-true _ _ p.1)))
+rule_narrow r = numbered_narrow (record { left = r.left; right = r.right }) r.line
 
 line_narrow : (l : Line) → line_fits l ≡ true → Bytes (line_bytes l)
-line_narrow l f =
-    let p = and_parts _ _ f in
-    append_narrow (equation_bytes l.claim) (number_bytes l.length) (equation_narrow l.claim p.0) (number_narrow l.length (omega (arith, leb-true _ _ p.1)))
+line_narrow l = numbered_narrow l.claim l.length
 
 chain_number_narrow : (z : ℤ) → ChainNumberFits z → Bytes (chain_number_bytes z)
 chain_number_narrow (pos n) f = number_narrow n (omega (arith, f.sfits))

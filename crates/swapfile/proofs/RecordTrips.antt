@@ -1,11 +1,12 @@
 -- The four kinds of record are read back as written, and nothing else reads as them.
-use Rattle.std.proofs.Common.{◌≡◌, ℕ, ◌+◌, ◌<◌, true, List, ◌++◌, length, Some, None, Option, refl, arith, length-append, w16, of_z}
+use Rattle.std.proofs.Common.{◌≡◌, ℕ, ◌+◌, ◌<◌, true, ◌&&◌, nat_le, List, ◌++◌, length, Some, None, Option, refl, arith, length-append, w16, of_z}
 use borrow.Author.Gap.{read_sfits}
 use Rattle.std.proofs.lemmas.Int.{to_z-of_z, of_z-to_z}
 use Rattle.std.proofs.lemmas.Bool.{and_parts, and_from, le-leb}
+use Rattle.worksheet.specs.declared.equation.Equation.{Equation}
 use Rattle.swapfile.specs.Bytes.{Bytes, number_at, number_bytes}
 use Rattle.swapfile.specs.StoredLoads.{load_bytes, load_at, load_zero}
-use Rattle.swapfile.specs.Sides.{sides_bytes, sides_size, right_at, first, sides_zero}
+use Rattle.swapfile.specs.Sides.{sides_size, right_at, first, sides_zero}
 use Rattle.swapfile.specs.Equations.{equation_bytes, equation_size, equation_at, equation_fits}
 use Rattle.swapfile.specs.Rules.{rule_bytes, rule_size, rule_at, rule_fits}
 use Rattle.swapfile.specs.Lines.{line_bytes, line_size, line_at, line_fits}
@@ -54,38 +55,16 @@ behind_forth b at xs h s e =
     let n = number_bytes (number_at b (at + sides_size b at)) in
     joins b xs n at s (moved b n (at + sides_size b at) (at + length xs) (omega (arith, e)) (number_forth b (at + sides_size b at) h))
 
--- lines
-pub line_trip : Trip line_size sides_zero line_at line_bytes (λ l. line_fits l ≡ true)
-line_trip = record {
+-- an equation and a number behind it
+numbered_trip : Trip {X = Equation × ℕ} (λ b at. sides_size b at + 2) sides_zero (λ b at. (equation_at b at, number_at b (at + sides_size b at))) (λ p. equation_bytes p.0 ++ number_bytes p.1) (λ p. (equation_fits p.0 && nat_le p.1 65535) ≡ true)
+numbered_trip = record {
   back = λ b at x f s.
-      let claim = equation_bytes x.claim in
-      let two = parts b claim (number_bytes x.length) at s in
-      let e = equation_trip.back b at x.claim (and_parts _ _ f).0 two.0 in
+      let sides = equation_bytes x.0 in
+      let two = parts b sides (number_bytes x.1) at s in
+      let e = equation_trip.back b at x.0 (and_parts _ _ f).0 two.0 in
       record {
-        is = λ i. record { claim = e.is i; length = behind_back b at claim x.length e.long two.1 i };
-        long = omega (arith, length-append claim (number_bytes x.length), e.long);
-        none = e.none;
-      };
-  forth = λ b at h z.
-      let e = equation_trip.forth b at h z in
-      let claim = equation_bytes (equation_at b at) in
-      record {
-        stands = behind_forth b at claim h e.stands e.long;
-        long = omega (arith, length-append claim (number_bytes (number_at b (at + sides_size b at))), e.long);
-        fit = and_from _ _ e.fit (le-leb _ _ (number_below b (at + sides_size b at) h));
-      };
-}
-
--- rules
-pub rule_trip : Trip rule_size sides_zero rule_at rule_bytes (λ r. rule_fits r ≡ true)
-rule_trip = record {
-  back = λ b at x f s.
-      let sides = sides_bytes x.left x.right in
-      let two = parts b sides (number_bytes x.line) at s in
-      let e = equation_trip.back b at (record { left = x.left; right = x.right }) (and_parts _ _ f).0 two.0 in
-      record {
-        is = λ i. record { left = (e.is i).left; right = (e.is i).right; line = behind_back b at sides x.line e.long two.1 i };
-        long = omega (arith, length-append sides (number_bytes x.line), e.long);
+        is = λ i. (e.is i, behind_back b at sides x.1 e.long two.1 i);
+        long = omega (arith, length-append sides (number_bytes x.1), e.long);
         none = e.none;
       };
   forth = λ b at h z.
@@ -96,6 +75,24 @@ rule_trip = record {
         long = omega (arith, length-append sides (number_bytes (number_at b (at + sides_size b at))), e.long);
         fit = and_from _ _ e.fit (le-leb _ _ (number_below b (at + sides_size b at) h));
       };
+}
+
+-- lines
+pub line_trip : Trip line_size sides_zero line_at line_bytes (λ l. line_fits l ≡ true)
+line_trip = record {
+  back = λ b at x f s.
+      let e = numbered_trip.back b at (x.claim, x.length) f s in
+      record { is = λ i. record { claim = (e.is i).0; length = (e.is i).1 }; long = e.long; none = e.none };
+  forth = λ b at h z. let e = numbered_trip.forth b at h z in record { stands = e.stands; long = e.long; fit = e.fit };
+}
+
+-- rules
+pub rule_trip : Trip rule_size sides_zero rule_at rule_bytes (λ r. rule_fits r ≡ true)
+rule_trip = record {
+  back = λ b at x f s.
+      let e = numbered_trip.back b at (record { left = x.left; right = x.right }, x.line) f s in
+      record { is = λ i. record { left = (e.is i).0.left; right = (e.is i).0.right; line = (e.is i).1 }; long = e.long; none = e.none };
+  forth = λ b at h z. let e = numbered_trip.forth b at h z in record { stands = e.stands; long = e.long; fit = e.fit };
 }
 
 -- chain numbers, in two's complement

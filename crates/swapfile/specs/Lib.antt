@@ -4,6 +4,7 @@ pub mod StoredLoads
 pub mod Sections
 pub mod Sides
 pub mod Equations
+pub mod Numbered
 pub mod Rules
 pub mod Lines
 pub mod ChainNumbers

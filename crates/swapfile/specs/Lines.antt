@@ -1,9 +1,8 @@
 -- The record of an added line: its two loads and the length of its chain. No other file of the definitions knows this layout.
 use Rattle.std.specs.Prelude.{ℕ, ◌+◌, Bool, ◌&&◌, List, ◌++◌, nat_le}
 use Rattle.worksheet.specs.declared.line.Line.{Line}
-use Rattle.swapfile.specs.declared.items.LineItem.{LineItem}
 use Rattle.swapfile.specs.Bytes.{number_at, number_bytes}
-use Rattle.swapfile.specs.Sides.{sides_size, right_at}
+use Rattle.swapfile.specs.Sides.{sides_size}
 use Rattle.swapfile.specs.Equations.{equation_bytes, equation_at, equation_fits}
 
 -- its bytes
@@ -13,10 +12,6 @@ line_bytes l = equation_bytes l.claim ++ number_bytes l.length
 -- how many there are, where it begins at a byte
 abbrev pub line_size : List ℕ → ℕ → ℕ
 line_size b at = sides_size b at + 2
-
--- where its loads stand, and the length of its chain
-abbrev pub line_item : List ℕ → ℕ → LineItem
-line_item b at = record { left = at; right = right_at b at; length = number_at b (at + sides_size b at) }
 
 -- the line itself
 abbrev pub line_at : List ℕ → ℕ → Line

@@ -2,7 +2,6 @@
 use Rattle.std.specs.Prelude.{ℕ, ◌+◌, Bool, ◌&&◌, List, ◌++◌, nat_le}
 use Rattle.loads.specs.Tests.{fits}
 use Rattle.worksheet.specs.declared.rule.Rule.{Rule}
-use Rattle.swapfile.specs.declared.items.RuleItem.{RuleItem}
 use Rattle.swapfile.specs.Bytes.{number_at, number_bytes}
 use Rattle.swapfile.specs.StoredLoads.{load_at}
 use Rattle.swapfile.specs.Sides.{sides_bytes, sides_size, right_at}
@@ -14,10 +13,6 @@ rule_bytes r = sides_bytes r.left r.right ++ number_bytes r.line
 -- how many there are, where it begins at a byte
 abbrev pub rule_size : List ℕ → ℕ → ℕ
 rule_size b at = sides_size b at + 2
-
--- where its loads stand, and its line
-abbrev pub rule_item : List ℕ → ℕ → RuleItem
-rule_item b at = record { left = at; right = right_at b at; line = number_at b (at + sides_size b at) }
 
 -- the rule itself
 abbrev pub rule_at : List ℕ → ℕ → Rule

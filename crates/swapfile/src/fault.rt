@@ -16,7 +16,7 @@ pub enum FileFault {
 }
 
 impl FileFault {
-    // The number under which the fault is told.
+    // The number under which the fault is told: these numbers are the format's.
     pub fn number(&self) -> u8
         ensures { result ≡ number self.now }
     {
@@ -33,10 +33,10 @@ impl FileFault {
         ensures { result ≡ place self.now }
     {
         match *self {
-            FileFault::Header(at) => at,
-            FileFault::Offset(at) => at,
-            FileFault::Record(at) => at,
-            FileFault::ZeroCount(at) => at,
+            FileFault::Header(at)
+            | FileFault::Offset(at)
+            | FileFault::Record(at)
+            | FileFault::ZeroCount(at) => at,
         }
     }
 }

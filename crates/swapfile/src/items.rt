@@ -15,18 +15,9 @@ pub struct EquationItem {
     pub right: usize,
 }
 
-// Where the loads of a rule begin, and its line.
+// Where the loads of a rule or an added line begin, and the number behind them: the rule's line, or the length of the line's chain.
 #[derive(Clone, Copy)]
-pub struct RuleItem {
-    pub left: usize,
-    pub right: usize,
-    pub line: u16,
-}
-
-// Where the loads of a line begin, and the length of its chain.
-#[derive(Clone, Copy)]
-pub struct LineItem {
-    pub left: usize,
-    pub right: usize,
-    pub length: u16,
+pub struct NumberedItem {
+    pub sides: EquationItem,
+    pub number: u16,
 }

@@ -34,15 +34,13 @@ fn full_line() -> Line {
     }
 }
 
-// Writes so many of each into a buffer.
+// Writes so many equations, rules, lines and chain numbers into a buffer.
 fn write_full(
     heap: Global,
     out: &mut [u8],
-    equations: usize,
-    rules: usize,
-    lines: usize,
-    numbers: usize,
+    counts: [usize; 4],
 ) -> Result<Result<usize, WriteFault>, AllocError> {
+    let [equations, rules, lines, numbers] = counts;
     let book = vec![in heap; full(); equations]?;
     let table = vec![in heap; full_rule(); rules]?;
     let worksheet = vec![in heap; full_line(); lines]?;
@@ -71,7 +69,7 @@ fn reads_largest(bytes: &[u8]) -> bool {
 #[test]
 fn largest_file(rt: HostRuntime) -> Result<(), Fail> {
     let mut out = [0u8; 32336];
-    let told = write_full(rt.alloc(), &mut out, 32, 128, 512, 4096)?;
+    let told = write_full(rt.alloc(), &mut out, [32, 128, 512, 4096])?;
     assert!(rt; told == Ok(32336) && reads_largest(&out));
     Ok(())
 }
@@ -79,7 +77,7 @@ fn largest_file(rt: HostRuntime) -> Result<(), Fail> {
 #[test]
 fn one_byte_less(rt: HostRuntime) -> Result<(), Fail> {
     let mut out = [0u8; 32335];
-    let told = write_full(rt.alloc(), &mut out, 32, 128, 512, 4096)?;
+    let told = write_full(rt.alloc(), &mut out, [32, 128, 512, 4096])?;
     assert!(rt; told == Err(WriteFault::ShortBuffer));
     Ok(())
 }
@@ -92,10 +90,9 @@ fn over_a_limit(rt: HostRuntime) -> Result<(), Fail> {
         [0, 0, 513, 0],
         [0, 0, 0, 4097],
     ];
-    for i in 0..4 {
-        let [equations, rules, lines, numbers] = over[i];
+    for counts in over {
         let mut out = [7u8; 16];
-        let told = write_full(rt.alloc(), &mut out, equations, rules, lines, numbers)?;
+        let told = write_full(rt.alloc(), &mut out, counts)?;
         assert!(rt; told == Err(WriteFault::OverLimit) && out == [7u8; 16]);
     }
     Ok(())

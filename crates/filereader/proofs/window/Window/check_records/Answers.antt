@@ -1,35 +1,27 @@
-use Rattle.std.proofs.Common.{◌+◌, ◌-◌, sym, ◌∙◌, arith}
-use Rattle.std.proofs.lemmas.Bool.{ltb-true}
-use Rattle.swapfile.specs.Sections.{filled_from}
-use Rattle.records.proofs.Held.{held-some, held_none}
-use Rattle.filereader.proofs.Walking.{fill_goes, fill_stops, fill_ends, fill_leaves}
+use Rattle.std.proofs.Common.{ap, ◌∙◌}
+use Rattle.swapfile.specs.Sections.{places, filled}
+use Rattle.filereader.proofs.Walking.{over, fill_goes, fill_full, fill_short}
 use Rattle.filereader.proofs.window.Window.check_records.Goals as goal
-
-pub returns-then-too_few : goal.returns-then-too_few
-returns-then-too_few g c =
-    let s = c.args.self.now in
-    let b = s.bytes.now in
-    fill_stops g.R.Record.size b s.count c.loop.counter c.loop.at _ c.loop.invariant c.loop-test.true
-    (omega (arith, g.met.R.Record.enough b c.loop.at, ltb-true _ _ (sym c.if-too_few.ensures)))
-
-pub returns-in-None : goal.returns-in-None
-returns-in-None g c =
-    let s = c.args.self.now in
-    fill_stops g.R.Record.size s.bytes.now s.count c.loop.counter c.loop.at _ c.loop.invariant c.loop-test.true (held_none _ _ _ c.in-None.ensures)
+use Rattle.filereader.proofs.window.Window.check_records.Goals.{else-rest-eq0-via-then-rest-eq0+else-rest, else-rest-eq0-via-else-rest-eq0}
 
 pub loop-preserved : goal.loop-preserved
-loop-preserved g c =
-    let s = c.args.self.now in
-    let here = held-some _ _ _ _ c.in-Some.ensures in
-    (λ i. filled_from g.R.Record.size s.bytes.now (s.count - (c.loop.counter + 1)) (here.1 i).end)
-    ∙ fill_goes g.R.Record.size s.bytes.now s.count c.loop.counter c.loop.at _ c.loop.invariant c.loop-test.true here.0
+loop-preserved g c = ap (filled g.R.Record.size) c.next.ensures.steps.1 ∙ fill_goes g.R.Record.size c.loop.rest ∙ c.loop.invariant
 
-pub returns-then-at-self : goal.returns-then-at-self
-returns-then-at-self g c =
-    let s = c.args.self.now in
-    fill_ends g.R.Record.size s.bytes.now s.count c.loop.counter c.loop.at _ c.loop.invariant c.loop-test.false c.if-at-self.true
+pub returns-then-rest : goal.returns-then-rest
+returns-then-rest g c =
+    let size = g.R.Record.size in
+    let s = c.rest.inside in
+    fill_full size s.bytes.now s.count s.start c.if-rest-eq0.true c.if-rest.true
+    ∙ ap (filled size) (c.rest.view_is ∙ c.next.ensures.steps.1) ∙ fill_goes size c.loop.rest ∙ c.loop.invariant
 
-pub returns-else-at-self : goal.returns-else-at-self
-returns-else-at-self g c =
-    let s = c.args.self.now in
-    fill_leaves g.R.Record.size s.bytes.now s.count c.loop.counter c.loop.at _ c.loop.invariant c.loop-test.false c.if-at-self.false
+pub returns-else-rest-eq0 : goal.returns-else-rest-eq0
+returns-else-rest-eq0 g c =
+    let size = g.R.Record.size in
+    let s = c.rest.inside in
+    let none = over size g.R.Record.item c.loop.rest c.next.new.self c.next.result c.next.ensures.steps c.loop-test.ensures in
+    let none' = ap (places size) c.rest.view_is ∙ none in
+    fill_short size s.bytes.now s.count s.start none' (λ z is. elim c.else-rest-eq0.branch [
+      | else-rest-eq0-via-then-rest-eq0+else-rest w ↦ w.if-rest.false is
+      | else-rest-eq0-via-else-rest-eq0 w ↦ w.if-rest-eq0.false z
+    ])
+    ∙ ap (filled size) (c.rest.view_is ∙ c.next.ensures.steps.1) ∙ fill_goes size c.loop.rest ∙ c.loop.invariant

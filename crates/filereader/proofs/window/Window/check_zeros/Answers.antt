@@ -1,31 +1,36 @@
-use Rattle.std.proofs.Common.{◌+◌, ◌-◌, ◌∙◌}
-use Rattle.swapfile.specs.Sections.{places_from, zero_free_in}
-use Rattle.records.proofs.Held.{held_there, held-some, held_none, told}
-use Rattle.filereader.proofs.Walking.{zero_found, zero_goes, zero_stops, zero_ends}
+use Rattle.std.proofs.Common.{sym, ap, ◌∙◌}
+use Rattle.swapfile.specs.Sections.{Section, held}
+use Rattle.records.specs.Records.{found}
+use Rattle.records.proofs.Held.{told}
+use Rattle.filereader.proofs.Walking.{went, ended, zero_found, zero_behind, zero_none}
 use Rattle.filereader.proofs.window.Window.check_zeros.Goals as goal
 
-pub returns-in-Some : goal.returns-in-Some
-returns-in-Some g c =
-    let s = c.args.self.now in
-    let here = held_there _ _ _ _ c.in-Some.ensures in
-    zero_found g.R.Record.size s.bytes.now (g.R.Record.zeros s.bytes.now) s.count c.loop.counter c.loop.at _ c.loop.invariant c.loop-test.true here.0 c.in-Some.place here.1
-
-pub returns-in-None : goal.returns-in-None
-returns-in-None g c =
-    let s = c.args.self.now in
-    zero_stops g.R.Record.size s.bytes.now (g.R.Record.zeros s.bytes.now) s.count c.loop.counter c.loop.at _ c.loop.invariant (held_none _ _ _ c.in-None.ensures)
-
-pub loop-preserved : goal.loop-preserved
-loop-preserved g c =
+pub returns-in-Some-zero_count : goal.returns-in-Some-zero_count
+returns-in-Some-zero_count g c =
     let size = g.R.Record.size in
-    let s = c.args.self.now in
-    let b = s.bytes.now in
-    let zeros = g.R.Record.zeros b in
-    let here = held-some _ _ _ _ c.in-Some-read.ensures in
-    (λ i. zero_free_in zeros (places_from size b (s.count - (c.loop.counter + 1)) (here.1 i).end))
-    ∙ zero_goes size b zeros s.count c.loop.counter c.loop.at _ c.loop.invariant c.loop-test.true here.0 (c.in_default.ensures ∙ told size b c.loop.at _ here.0)
+    let zeros = g.R.Record.zeros in
+    let s = c.loop-found.found-iterator in
+    let t = c.next.new.self in
+    let gives = c.in-Some.ensures.steps in
+    let w = went size s t (found size g.R.Record.item s.bytes) c.in-Some.found gives.0 gives.1 in
+    let bytes = ap (λ (x : Section). x.bytes) c.self.view_is ∙ sym c.loop-found.invariant.2 in
+    let is = c.in-Some-zero_count.ensures ∙ (λ i. held size (bytes i) (w.is i).byte (zeros (bytes i) (w.is i).byte)) ∙ told size s.bytes s.start _ w.room in
+    zero_found size zeros s t _ _ w c.in-Some-zero_count.place is ∙ c.loop-found.invariant.3
+
+pub loop-found-preserved : goal.loop-found-preserved
+loop-found-preserved g c =
+    let size = g.R.Record.size in
+    let zeros = g.R.Record.zeros in
+    let s = c.loop-found.found-iterator in
+    let t = c.next.new.self in
+    let gives = c.in-Some.ensures.steps in
+    let w = went size s t (found size g.R.Record.item s.bytes) c.in-Some.found gives.0 gives.1 in
+    let bytes = ap (λ (x : Section). x.bytes) c.self.view_is ∙ sym c.loop-found.invariant.2 in
+    let is = c.in_default.ensures ∙ (λ i. held size (bytes i) (w.is i).byte (zeros (bytes i) (w.is i).byte)) ∙ told size s.bytes s.start _ w.room in
+    (tt, tt, w.bytes ∙ c.loop-found.invariant.2, zero_behind size zeros s t _ _ w is ∙ c.loop-found.invariant.3)
 
 pub returns : goal.returns
 returns g c =
-    let s = c.args.self.now in
-    zero_ends g.R.Record.size s.bytes.now (g.R.Record.zeros s.bytes.now) s.count c.loop.counter c.loop.at _ c.loop.invariant c.loop-test.false
+    let size = g.R.Record.size in
+    let s = c.loop-found.found-iterator in
+    zero_none size g.R.Record.zeros s (ended size s (found size g.R.Record.item s.bytes) c.in-None.ensures.steps.0) ∙ c.loop-found.invariant.3

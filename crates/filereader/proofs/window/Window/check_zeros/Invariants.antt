@@ -1,10 +1,10 @@
-use Rattle.std.proofs.Common.{◌≡◌, ◌-◌}
-use Rattle.swapfile.specs.Sections.{places_from, zero_free_in}
+use Rattle.std.proofs.Common.{◌≡◌}
+use Rattle.swapfile.specs.Sections.{zero_free}
 use Rattle.filereader.proofs.window.Window.check_zeros.Given as goal
 
-abbrev pub invariant-loop : goal.invariant-loop
-invariant-loop g l =
-    let size = g.R.Record.size in
-    let s = l.self in
-    let zeros = g.R.Record.zeros s.bytes.now in
-    zero_free_in zeros (places_from size s.bytes.now (s.count - l.counter) l.at) ≡ zero_free_in zeros (places_from size s.bytes.now s.count s.start)
+abbrev pub invariant-loop-found : goal.invariant-loop-found
+invariant-loop-found g l =
+    (goal.iterator-loop-found g).can_next l.found-iterator
+    × (goal.iterator-loop-found g).is_finite l.found-iterator
+    × (l.found-iterator.bytes ≡ l.self.bytes)
+    × (zero_free g.R.Record.size g.R.Record.zeros l.found-iterator ≡ zero_free g.R.Record.size g.R.Record.zeros l.self)
