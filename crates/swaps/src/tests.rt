@@ -21,11 +21,7 @@ fn prints(heap: Global, script: &[u8], expected: &str) -> Result<bool, NoMemory>
 
 // A line of so many equal bytes.
 fn long_line(heap: Global, byte: u8, count: usize) -> Result<Vec<u8>, AllocError> {
-    let mut line = Vec::new(heap);
-    for _ in 0..count {
-        line.push(byte)?;
-    }
-    Ok(line)
+    vec![in heap; byte; count]
 }
 
 #[test]
