@@ -2,7 +2,7 @@
 use crate::memory::NoMemory;
 use crate::notation::Letters;
 use loads::Load;
-use refusals::Refusal;
+use refusals::{Refusal, Told};
 use register::register::Register;
 use register::replay::Outcome;
 use register::settle::Counts;
@@ -161,12 +161,9 @@ pub(crate) fn tell<T: fmt::Display + Drop>(
     answer: Result<T, Refusal>,
     out: &mut String,
 ) -> Result<(), NoMemory> {
-    match answer {
-        Ok(given) => write!(out, "{given}\n")?,
-        Err(refusal) => {
-            let told = refusal.told();
-            write!(out, "{told}\n")?
-        }
+    match answer.map_err(Told::from) {
+        Ok(given) => writeln!(out, "{given}")?,
+        Err(told) => writeln!(out, "{told}")?,
     }
     Ok(())
 }
@@ -174,14 +171,14 @@ pub(crate) fn tell<T: fmt::Display + Drop>(
 pub(crate) fn tell_table(register: &Register, out: &mut String) -> Result<(), NoMemory> {
     let rules = register.rules();
     if rules.is_empty() {
-        write!(out, "no rules\n")?;
+        writeln!(out, "no rules")?;
     }
     for (i, rule) in rules.iter().enumerate() {
         let row = Row {
             place: i + 1,
             rule: *rule,
         };
-        write!(out, "{row}\n")?;
+        writeln!(out, "{row}")?;
     }
     Ok(())
 }
@@ -193,8 +190,8 @@ fn tell_line(register: &Register, number: usize, out: &mut String) -> Result<(),
     };
     let sides = Sides(claim);
     match register.chain(number).map(Chain) {
-        Some(chain) => write!(out, "line {number}: {sides}, chain{chain}\n")?,
-        None => write!(out, "line {number}: {sides}\n")?,
+        Some(chain) => writeln!(out, "line {number}: {sides}, chain{chain}")?,
+        None => writeln!(out, "line {number}: {sides}")?,
     }
     Ok(())
 }
@@ -202,7 +199,7 @@ fn tell_line(register: &Register, number: usize, out: &mut String) -> Result<(),
 pub(crate) fn tell_lines(register: &Register, out: &mut String) -> Result<(), NoMemory> {
     let count = register.line_count();
     if count == 0 {
-        write!(out, "no lines\n")?;
+        writeln!(out, "no lines")?;
     }
     for number in 1..=count {
         tell_line(register, number, out)?;

@@ -38,7 +38,7 @@ impl Session {
         match command {
             Command::New => {
                 *register = Register::new(self.heap)?;
-                write!(out, "new register\n")?;
+                writeln!(out, "new register")?;
                 Ok(())
             }
             Command::Enter(equation) => {
@@ -84,7 +84,7 @@ impl Session {
         let Some(command) = self.command()? else {
             self.all_understood = false;
             let number = self.input.number();
-            write!(out, "line {number}: not understood\n")?;
+            writeln!(out, "line {number}: not understood")?;
             return Ok(());
         };
         self.perform(command, out)
