@@ -76,6 +76,27 @@ fn a_line_of_100_000_characters_is_not_understood(rt: HostRuntime) -> Result<(),
 }
 
 #[test]
+fn the_longest_line_is_understood_and_no_longer_one(rt: HostRuntime) -> Result<(), Fail> {
+    let heap = rt.alloc();
+    let mut script = long_line(heap, b' ', 999_995)?;
+    script.extend_from_slice(b"lines\n")?;
+    script.extend_from_slice(&long_line(heap, b' ', 999_996)?)?;
+    script.extend_from_slice(b"lines\n")?;
+    assert!(rt; prints(heap, &script, "no lines\nline 2: not understood\n")?);
+    Ok(())
+}
+
+#[test]
+fn numbers_have_no_plus_sign(rt: HostRuntime) -> Result<(), Fail> {
+    let script =
+        b"replay a +1\nreplay a+2\nmatch a a +0 0\nsettle listed +1 1\nsettle weights +1,1,1,1,1,1,1,1 bulk 1 1\nreplay a -0\n";
+    let expected =
+        "line 1: not understood\nline 2: not understood\nline 3: not understood\nline 4: not understood\nline 5: not understood\nrefused 11: replay, place 1\n";
+    assert!(rt; prints(rt.alloc(), script, expected)?);
+    Ok(())
+}
+
+#[test]
 fn a_chain_of_10_000_numbers_is_followed(rt: HostRuntime) -> Result<(), Fail> {
     let heap = rt.alloc();
     let mut script = Vec::new(heap);
