@@ -29,7 +29,8 @@ fn print_answers(
     Ok(answered?)
 }
 
-// Reads the script to its end, and says whether every line was understood.
+// Reads the script to its end, and says whether every line was understood. It reads blocks, since an iterator over lines would keep one of any
+// length, and counts them, since a loop has to end.
 fn run(rt: &HostRuntime) -> anyhow::Result<bool> {
     let heap = rt.alloc();
     let mut session = Session::new(heap)?;
