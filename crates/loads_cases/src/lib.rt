@@ -5,9 +5,8 @@
 mod tests {
     use loads::Load;
     use loads::exchange::ExchangeFault;
-    use std::test::Fail;
     use worksheet::equation::Equation;
-    use worksheet::fault::SwapFault;
+    use worksheet::fault::{ReplayFault, SwapFault};
     use worksheet::net::net;
     use worksheet::replay::replay;
 
@@ -34,50 +33,25 @@ mod tests {
     }
 
     #[test]
-    fn an_exchange_fills_a_count_and_not_more(rt: HostRuntime) -> Result<(), Fail> {
+    fn an_exchange_fills_a_count_and_not_more(rt: HostRuntime) {
         let full = ends(0, 65535);
-        match full.exchange(&ends(0, 1), &ends(1, 1)) {
-            Ok(made) => assert!(rt; made == ends(1, 65535)),
-            Err(_) => return Err(Fail::new("refused")),
-        }
-        match full.exchange(&ends(0, 1), &ends(0, 2)) {
-            Ok(_) => return Err(Fail::new("made")),
-            Err(fault) => assert_eq!(rt; fault, ExchangeFault::Overflow),
-        }
-        match full.exchange(&ends(1, 1), &ends(0, 2)) {
-            Ok(_) => Err(Fail::new("made")),
-            Err(fault) => {
-                assert_eq!(rt; fault, ExchangeFault::Lacks);
-                Ok(())
-            },
-        }
+        assert!(rt; full.exchange(&ends(0, 1), &ends(1, 1)) == Ok(ends(1, 65535)));
+        assert!(rt; full.exchange(&ends(0, 1), &ends(0, 2)) == Err(ExchangeFault::Overflow));
+        assert!(rt; full.exchange(&ends(1, 1), &ends(0, 2)) == Err(ExchangeFault::Lacks));
     }
 
     #[test]
-    fn a_chain_ends_or_tells_its_step(rt: HostRuntime) -> Result<(), Fail> {
+    fn a_chain_ends_or_tells_its_step(rt: HostRuntime) {
         let book = [Equation {
             left: ends(2, 0),
             right: ends(0, 1),
         }];
-        match replay(&book, &[], &[1, -1, 1], &ends(3, 0)) {
-            Ok(end) => {
-                assert!(rt; end == ends(1, 1));
-                assert_eq!(rt; net(&ends(3, 0), &end)[0], -2);
-            }
-            Err(_) => return Err(Fail::new("refused")),
-        }
-        match replay(&book, &[], &[1, -32768], &ends(2, 0)) {
-            Ok(_) => Err(Fail::new("followed")),
-            Err(fault) => {
-                assert_eq!(rt; fault.step, 2);
-                assert!(rt;
-                    match fault.fault {
-                        SwapFault::NoLine => true,
-                        _ => false,
-                    }
-                );
-                Ok(())
-            }
-        }
+        assert!(rt; replay(&book, &[], &[1, -1, 1], &ends(3, 0)) == Ok(ends(1, 1)));
+        assert_eq!(rt; net(&ends(3, 0), &ends(1, 1))[0], -2);
+        let fault = ReplayFault {
+            step: 2,
+            fault: SwapFault::NoLine,
+        };
+        assert!(rt; replay(&book, &[], &[1, -32768], &ends(2, 0)) == Err(fault));
     }
 }

@@ -2,7 +2,7 @@
 use crate::memory::NoMemory;
 use crate::notation::Letters;
 use loads::Load;
-use refusals::Refusal;
+use refusals::{Refusal, Told};
 use register::register::Register;
 use register::replay::Outcome;
 use register::settle::Counts;
@@ -10,6 +10,7 @@ use register::verdict::Verdict;
 use std::fmt;
 use std::fmt::Write;
 use worksheet::equation::Equation;
+use worksheet::rule::Rule;
 
 // An equation, as it is printed.
 #[derive(Clone, Copy)]
@@ -23,135 +24,163 @@ impl fmt::Display for Sides {
     }
 }
 
+// Numbers, as they are printed: each with a space before it.
+#[derive(Clone, Copy)]
+struct Spaced<'a, N> {
+    numbers: &'a [N],
+}
+
+impl<'a, N: fmt::Display> fmt::Display for Spaced<'a, N> {
+    fn fmt<W: fmt::Write>(&self, f: &mut fmt::Formatter<W>) -> fmt::Result {
+        for number in self.numbers {
+            write!(f, " {number}")?;
+        }
+        Ok(())
+    }
+}
+
 // A chain, as it is printed: its numbers parted by spaces, or - where there are none.
-pub(crate) fn tell_chain(chain: &[i16], out: &mut String) -> Result<(), NoMemory> {
-    if chain.is_empty() {
-        write!(out, " -")?;
-    }
-    for number in chain {
-        write!(out, " {number}")?;
-    }
-    Ok(())
-}
+#[derive(Clone, Copy)]
+struct Chain<'a>(&'a [i16]);
 
-pub(crate) fn tell_refusal(refusal: Refusal, out: &mut String) -> Result<(), NoMemory> {
-    let told = refusal.told();
-    write!(out, "{told}\n")?;
-    Ok(())
-}
-
-pub(crate) fn tell_entered(
-    answer: Result<usize, Refusal>,
-    equation: Equation,
-    out: &mut String,
-) -> Result<(), NoMemory> {
-    match answer {
-        Ok(number) => {
-            let sides = Sides(equation);
-            write!(out, "equation {number}: {sides}\n")?;
-            Ok(())
+impl<'a> fmt::Display for Chain<'a> {
+    fn fmt<W: fmt::Write>(&self, f: &mut fmt::Formatter<W>) -> fmt::Result {
+        if self.0.is_empty() {
+            return write!(f, " -");
         }
-        Err(refusal) => tell_refusal(refusal, out),
+        let numbers = Spaced { numbers: self.0 };
+        write!(f, "{numbers}")
     }
 }
 
-pub(crate) fn tell_settled(
-    answer: Result<Counts, Refusal>,
-    out: &mut String,
-) -> Result<(), NoMemory> {
-    match answer {
-        Ok(counts) => {
-            let rules = counts.rules;
-            let lines = counts.lines;
-            let steps = counts.steps;
-            write!(
-                out,
-                "settled: {rules} rules, {lines} lines, {steps} steps\n"
-            )?;
-            Ok(())
-        }
-        Err(refusal) => tell_refusal(refusal, out),
+// An equation that was entered, with its number.
+#[derive(Clone, Copy)]
+pub(crate) struct Entered {
+    pub(crate) number: usize,
+    pub(crate) equation: Equation,
+}
+
+impl fmt::Display for Entered {
+    fn fmt<W: fmt::Write>(&self, f: &mut fmt::Formatter<W>) -> fmt::Result {
+        let number = self.number;
+        let sides = Sides(self.equation);
+        write!(f, "equation {number}: {sides}")
     }
 }
 
-pub(crate) fn tell_reopened(answer: Result<(), Refusal>, out: &mut String) -> Result<(), NoMemory> {
-    match answer {
-        Ok(()) => {
-            write!(out, "reopened\n")?;
-            Ok(())
-        }
-        Err(refusal) => tell_refusal(refusal, out),
+// What a settling counted.
+#[derive(Clone, Copy)]
+pub(crate) struct Settled(pub(crate) Counts);
+
+impl fmt::Display for Settled {
+    fn fmt<W: fmt::Write>(&self, f: &mut fmt::Formatter<W>) -> fmt::Result {
+        let rules = self.0.rules;
+        let lines = self.0.lines;
+        let steps = self.0.steps;
+        write!(f, "settled: {rules} rules, {lines} lines, {steps} steps")
     }
 }
 
-pub(crate) fn tell_standard(
-    answer: Result<u32, Refusal>,
-    load: Load,
-    out: &mut String,
-) -> Result<(), NoMemory> {
-    match answer {
-        Ok(steps) => {
-            let standard = Letters(load);
-            write!(out, "standard: {standard}, {steps} steps\n")?;
-            Ok(())
-        }
-        Err(refusal) => tell_refusal(refusal, out),
+// A register is open again.
+#[derive(Clone, Copy)]
+pub(crate) struct Reopened;
+
+impl fmt::Display for Reopened {
+    fn fmt<W: fmt::Write>(&self, f: &mut fmt::Formatter<W>) -> fmt::Result {
+        write!(f, "reopened")
     }
 }
 
-pub(crate) fn tell_matched(
-    answer: Result<Verdict, Refusal>,
-    row: &[i16],
-    out: &mut String,
-) -> Result<(), NoMemory> {
-    match answer {
-        Ok(Verdict::Equal(steps)) => {
-            write!(out, "equal: {steps} steps, chain")?;
-            if let Some(chain) = row.get(0..steps as usize) {
-                tell_chain(chain, out)?;
+// A standard load, and the steps to it.
+#[derive(Clone, Copy)]
+pub(crate) struct Reduced {
+    pub(crate) standard: Load,
+    pub(crate) steps: u32,
+}
+
+impl fmt::Display for Reduced {
+    fn fmt<W: fmt::Write>(&self, f: &mut fmt::Formatter<W>) -> fmt::Result {
+        let standard = Letters(self.standard);
+        let steps = self.steps;
+        write!(f, "standard: {standard}, {steps} steps")
+    }
+}
+
+// A verdict, and the row whose first places hold its chain.
+#[derive(Clone, Copy)]
+pub(crate) struct Matched<'a> {
+    pub(crate) verdict: Verdict,
+    pub(crate) row: &'a [i16],
+}
+
+impl<'a> fmt::Display for Matched<'a> {
+    fn fmt<W: fmt::Write>(&self, f: &mut fmt::Formatter<W>) -> fmt::Result {
+        match self.verdict {
+            Verdict::Equal(steps) => {
+                let chain = Chain(self.row.get(..steps as usize).unwrap_or(self.row));
+                write!(f, "equal: {steps} steps, chain{chain}")
             }
-            write!(out, "\n")?;
-            Ok(())
+            Verdict::Different(steps) => write!(f, "different: {steps} steps"),
         }
-        Ok(Verdict::Different(steps)) => {
-            write!(out, "different: {steps} steps\n")?;
-            Ok(())
-        }
-        Err(refusal) => tell_refusal(refusal, out),
     }
+}
+
+// Where a chain ends, and what it came to.
+#[derive(Clone, Copy)]
+pub(crate) struct Replayed(pub(crate) Outcome);
+
+impl fmt::Display for Replayed {
+    fn fmt<W: fmt::Write>(&self, f: &mut fmt::Formatter<W>) -> fmt::Result {
+        let end = Letters(self.0.end);
+        let net = Spaced {
+            numbers: self.0.net.as_slice(),
+        };
+        write!(f, "end: {end}, net{net}")
+    }
+}
+
+// A line of the table.
+#[derive(Clone, Copy)]
+struct Row {
+    place: usize,
+    rule: Rule,
+}
+
+impl fmt::Display for Row {
+    fn fmt<W: fmt::Write>(&self, f: &mut fmt::Formatter<W>) -> fmt::Result {
+        let place = self.place;
+        let left = Letters(self.rule.left);
+        let right = Letters(self.rule.right);
+        let line = self.rule.line;
+        write!(f, "rule {place}: {left} -> {right}, line {line}")
+    }
+}
+
+// Tells what a call gave, or why it is refused.
+pub(crate) fn tell<T: fmt::Display + Drop>(
+    answer: Result<T, Refusal>,
+    out: &mut String,
+) -> Result<(), NoMemory> {
+    match answer.map_err(Told::from) {
+        Ok(given) => writeln!(out, "{given}")?,
+        Err(told) => writeln!(out, "{told}")?,
+    }
+    Ok(())
 }
 
 pub(crate) fn tell_table(register: &Register, out: &mut String) -> Result<(), NoMemory> {
     let rules = register.rules();
     if rules.is_empty() {
-        write!(out, "no rules\n")?;
+        writeln!(out, "no rules")?;
     }
     for (i, rule) in rules.iter().enumerate() {
-        let place = i.saturating_add(1);
-        let left = Letters(rule.left);
-        let right = Letters(rule.right);
-        let line = rule.line;
-        write!(out, "rule {place}: {left} -> {right}, line {line}\n")?;
+        let row = Row {
+            place: i + 1,
+            rule: *rule,
+        };
+        writeln!(out, "{row}")?;
     }
     Ok(())
-}
-
-pub(crate) fn tell_replayed(
-    answer: Result<Outcome, Refusal>,
-    out: &mut String,
-) -> Result<(), NoMemory> {
-    match answer {
-        Ok(outcome) => {
-            let end = Letters(outcome.end);
-            write!(out, "end: {end}, net")?;
-            for count in outcome.net {
-                write!(out, " {count}")?;
-            }
-            write!(out, "\n")?;
-            Ok(())
-        }
-        Err(refusal) => tell_refusal(refusal, out),
-    }
 }
 
 // The line with a number, if there is one.
@@ -160,22 +189,20 @@ fn tell_line(register: &Register, number: usize, out: &mut String) -> Result<(),
         return Ok(());
     };
     let sides = Sides(claim);
-    write!(out, "line {number}: {sides}")?;
-    if let Some(chain) = register.chain(number) {
-        write!(out, ", chain")?;
-        tell_chain(chain, out)?;
+    match register.chain(number).map(Chain) {
+        Some(chain) => writeln!(out, "line {number}: {sides}, chain{chain}")?,
+        None => writeln!(out, "line {number}: {sides}")?,
     }
-    write!(out, "\n")?;
     Ok(())
 }
 
 pub(crate) fn tell_lines(register: &Register, out: &mut String) -> Result<(), NoMemory> {
     let count = register.line_count();
     if count == 0 {
-        write!(out, "no lines\n")?;
+        writeln!(out, "no lines")?;
     }
-    for place in 0..count {
-        tell_line(register, place + 1, out)?;
+    for number in 1..=count {
+        tell_line(register, number, out)?;
     }
     Ok(())
 }

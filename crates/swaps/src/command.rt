@@ -1,12 +1,15 @@
 // What a line of a script asks for.
 use crate::memory::NoMemory;
 use crate::notation::read_load;
-use crate::numbers::{read_number, read_signed};
+use crate::numbers::read_number;
 use crate::ordering::{Chosen, read_order};
 use crate::words::Words;
 use loads::Load;
 use std::alloc::Global;
 use worksheet::equation::Equation;
+
+// The largest room of a chain.
+const MOST_ROOM: u32 = 1_000_000;
 
 // A call of the register, or a look at it.
 #[derive(Drop)]
@@ -25,9 +28,9 @@ pub(crate) enum Command {
 // An equation, as `a2b = c`.
 fn read_equation(words: &mut Words) -> Option<Equation> {
     let left = read_load(words.next()?)?;
-    if words.next()? != b"=".as_slice() {
+    let b"=" = words.next()? else {
         return None;
-    }
+    };
     let right = read_load(words.next()?)?;
     Some(Equation { left, right })
 }
@@ -35,53 +38,45 @@ fn read_equation(words: &mut Words) -> Option<Equation> {
 // An order, a capacity and a budget.
 fn read_settle(words: &mut Words) -> Option<Command> {
     let order = read_order(words)?;
-    let capacity = read_number(words.next()?, u32::MAX)?;
-    let budget = read_number(words.next()?, u32::MAX)?;
+    let capacity = read_number(words.next()?)?;
+    let budget = read_number(words.next()?)?;
     Some(Command::Settle(order, capacity, budget))
 }
 
 // A load and a budget.
 fn read_standard(words: &mut Words) -> Option<Command> {
     let load = read_load(words.next()?)?;
-    Some(Command::Standard(load, read_number(words.next()?, u32::MAX)?))
+    let budget = read_number(words.next()?)?;
+    Some(Command::Standard(load, budget))
 }
 
 // Two loads, the room of the chain, and a budget.
 fn read_match(words: &mut Words) -> Option<Command> {
     let first = read_load(words.next()?)?;
     let second = read_load(words.next()?)?;
-    let room = read_number(words.next()?, 1_000_000)?;
-    let budget = read_number(words.next()?, u32::MAX)?;
+    let room = read_number(words.next()?).filter(|room| *room <= MOST_ROOM)?;
+    let budget = read_number(words.next()?)?;
     Some(Command::Match(first, second, room, budget))
 }
 
 // The rest of the words as chain numbers.
 fn read_chain(words: &mut Words, heap: Global) -> Result<Option<Vec<i16>>, NoMemory> {
     let mut chain = Vec::new(heap);
-    for _ in 0..u64::MAX {
-        let Some(word) = words.next() else {
-            return Ok(Some(chain));
-        };
-        let Some(number) = read_signed(word) else {
+    for word in words {
+        let Some(number) = read_number(word) else {
             return Ok(None);
         };
         chain.push(number)?;
     }
-    Ok(None)
+    Ok(Some(chain))
 }
 
 // A load and a chain.
 fn read_replay(words: &mut Words, heap: Global) -> Result<Option<Command>, NoMemory> {
-    let Some(word) = words.next() else {
+    let Some(load) = words.next().and_then(read_load) else {
         return Ok(None);
     };
-    let Some(load) = read_load(word) else {
-        return Ok(None);
-    };
-    match read_chain(words, heap)? {
-        Some(chain) => Ok(Some(Command::Replay(load, chain))),
-        None => Ok(None),
-    }
+    Ok(read_chain(words, heap)?.map(|chain| Command::Replay(load, chain)))
 }
 
 // The command of a line, or None where it is not understood.
@@ -93,10 +88,7 @@ pub(crate) fn read_command(line: &[u8], heap: Global) -> Result<Option<Command>,
     let command = match name {
         b"new" => Some(Command::New),
         b"lines" => Some(Command::Lines),
-        b"enter" => match read_equation(&mut words) {
-            Some(equation) => Some(Command::Enter(equation)),
-            None => None,
-        },
+        b"enter" => read_equation(&mut words).map(Command::Enter),
         b"settle" => read_settle(&mut words),
         b"reopen" => Some(Command::Reopen),
         b"standard" => read_standard(&mut words),
@@ -105,5 +97,5 @@ pub(crate) fn read_command(line: &[u8], heap: Global) -> Result<Option<Command>,
         b"table" => Some(Command::Table),
         _ => None,
     };
-    if words.done() { Ok(command) } else { Ok(None) }
+    Ok(command.filter(|_| words.next().is_none()))
 }

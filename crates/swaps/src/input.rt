@@ -2,15 +2,14 @@
 use crate::memory::NoMemory;
 use std::alloc::Global;
 
-// The longest line that is kept. A longer one is read to its end and not understood.
+// The longest line that is understood. Of a longer one, one byte more is kept, which tells it.
 const LONGEST: usize = 1_000_000;
 
-// The bytes of the line so far, its number, and whether it passed the longest.
+// The bytes of the line so far, and its number.
 #[derive(Drop)]
 pub(crate) struct LineBuffer {
     bytes: Vec<u8>,
     number: u64,
-    too_long: bool,
 }
 
 impl LineBuffer {
@@ -18,26 +17,20 @@ impl LineBuffer {
         LineBuffer {
             bytes: Vec::new(heap),
             number: 1,
-            too_long: false,
         }
     }
 
     // One byte more of the line.
     pub(crate) fn push(&mut self, byte: u8) -> Result<(), NoMemory> {
-        if self.bytes.len() < LONGEST {
+        if self.bytes.len() <= LONGEST {
             self.bytes.push(byte)?;
-        } else {
-            self.too_long = true;
         }
         Ok(())
     }
 
     // The line, unless it is too long to be understood.
     pub(crate) fn line(&self) -> Option<&[u8]> {
-        if self.too_long {
-            return None;
-        }
-        Some(self.bytes.as_slice())
+        (self.bytes.len() <= LONGEST).then_some(self.bytes.as_slice())
     }
 
     pub(crate) fn number(&self) -> u64 {
@@ -47,7 +40,6 @@ impl LineBuffer {
     // Goes on to the next line.
     pub(crate) fn next(&mut self) {
         self.bytes.clear();
-        self.too_long = false;
         self.number = self.number.saturating_add(1);
     }
 }

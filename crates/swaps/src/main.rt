@@ -13,11 +13,24 @@ mod session;
 mod tests;
 mod words;
 
+use memory::NoMemory;
 use session::Session;
 use std::io::Read;
 use std::process::ExitCode;
 
-// Reads the script to its end. What was answered is printed even where the next line finds no memory.
+// Prints what was answered, even where the next line found no memory, and makes room for the next answers.
+fn print_answers(
+    rt: &HostRuntime,
+    out: &mut String,
+    answered: Result<(), NoMemory>,
+) -> anyhow::Result<()> {
+    rt.print(out.as_str())?;
+    out.clear();
+    Ok(answered?)
+}
+
+// Reads the script to its end, and says whether every line was understood. It reads blocks, since an iterator over lines would keep one of any
+// length, and counts them, since a loop has to end.
 fn run(rt: &HostRuntime) -> anyhow::Result<bool> {
     let heap = rt.alloc();
     let mut session = Session::new(heap)?;
@@ -29,21 +42,17 @@ fn run(rt: &HostRuntime) -> anyhow::Result<bool> {
         if count == 0 {
             break;
         }
-        let fed = session.feed(&block[0..count], &mut out);
-        rt.print(out.as_str())?;
-        out.clear();
-        fed?;
+        let answered = session.feed(&block[..count], &mut out);
+        print_answers(rt, &mut out, answered)?;
     }
-    let ended = session.finish(&mut out);
-    rt.print(out.as_str())?;
-    ended?;
+    let answered = session.finish(&mut out);
+    print_answers(rt, &mut out, answered)?;
     Ok(session.all_understood())
 }
 
 // What was not understood stands in the answers; the status alone says so again.
 fn main(rt: HostRuntime) -> anyhow::Result<ExitCode> {
-    let understood = run(&rt)?;
-    if understood {
+    if run(&rt)? {
         Ok(ExitCode::SUCCESS)
     } else {
         Ok(ExitCode::FAILURE)

@@ -34,54 +34,60 @@ impl Session {
 
     // Makes the call, and tells what it did.
     fn perform(&mut self, command: Command, out: &mut String) -> Result<(), NoMemory> {
+        let register = &mut self.register;
         match command {
             Command::New => {
-                self.register = Register::new(self.heap)?;
-                write!(out, "new register\n")?;
+                *register = Register::new(self.heap)?;
+                writeln!(out, "new register")?;
                 Ok(())
             }
-            Command::Enter(equation) => tell_entered(self.register.enter(equation), equation, out),
-            Command::Settle(order, capacity, budget) => tell_settled(
-                settle_by(&mut self.register, order, capacity, budget),
-                out,
-            ),
-            Command::Reopen => tell_reopened(self.register.reopen(), out),
-            Command::Standard(load, budget) => {
-                let mut standard = load;
-                let answer = self.register.standard(&mut standard, budget);
-                tell_standard(answer, standard, out)
+            Command::Enter(equation) => {
+                let answer = register.enter(equation);
+                tell(answer.map(|number| Entered { number, equation }), out)
+            }
+            Command::Settle(order, capacity, budget) => {
+                tell(
+                    settle_by(register, order, capacity, budget).map(Settled),
+                    out,
+                )
+            }
+            Command::Reopen => tell(register.reopen().map(|()| Reopened), out),
+            Command::Standard(mut standard, budget) => {
+                let answer = register.standard(&mut standard, budget);
+                tell(answer.map(|steps| Reduced { standard, steps }), out)
             }
             Command::Match(first, second, room, budget) => {
                 let mut row = vec![in self.heap; 0i16; room as usize]?;
-                let answer = self.register.match_loads(&first, &second, &mut row, budget);
-                tell_matched(answer, &row, out)
+                let answer = register.match_loads(&first, &second, &mut row, budget);
+                let row = row.as_slice();
+                tell(answer.map(|verdict| Matched { verdict, row }), out)
             }
-            Command::Table => tell_table(&self.register, out),
-            Command::Replay(load, chain) => tell_replayed(self.register.replay(&load, &chain), out),
-            Command::Lines => tell_lines(&self.register, out),
+            Command::Table => tell_table(register, out),
+            Command::Replay(load, chain) => tell(register.replay(&load, &chain).map(Replayed), out),
+            Command::Lines => tell_lines(register, out),
+        }
+    }
+
+    // The command of the line that has come in, None where it is not understood.
+    fn command(&self) -> Result<Option<Command>, NoMemory> {
+        match self.input.line() {
+            Some(line) => read_command(line, self.heap),
+            None => Ok(None),
         }
     }
 
     // Answers the line that has come in.
     fn answer(&mut self, out: &mut String) -> Result<(), NoMemory> {
-        let command = match self.input.line() {
-            None => None,
-            Some(line) => {
-                if passed_over(line) {
-                    return Ok(());
-                }
-                read_command(line, self.heap)?
-            }
-        };
-        match command {
-            Some(command) => self.perform(command, out),
-            None => {
-                self.all_understood = false;
-                let number = self.input.number();
-                write!(out, "line {number}: not understood\n")?;
-                Ok(())
-            }
+        if self.input.line().is_some_and(passed_over) {
+            return Ok(());
         }
+        let Some(command) = self.command()? else {
+            self.all_understood = false;
+            let number = self.input.number();
+            writeln!(out, "line {number}: not understood")?;
+            return Ok(());
+        };
+        self.perform(command, out)
     }
 
     // Takes in a block of the script, and answers each line that ends in it.

@@ -21,11 +21,7 @@ fn prints(heap: Global, script: &[u8], expected: &str) -> Result<bool, NoMemory>
 
 // A line of so many equal bytes.
 fn long_line(heap: Global, byte: u8, count: usize) -> Result<Vec<u8>, AllocError> {
-    let mut line = Vec::new(heap);
-    for _ in 0..count {
-        line.push(byte)?;
-    }
-    Ok(line)
+    vec![in heap; byte; count]
 }
 
 #[test]
@@ -76,6 +72,27 @@ fn a_line_of_100_000_characters_is_not_understood(rt: HostRuntime) -> Result<(),
     let mut script = long_line(heap, b'a', 100_000)?;
     script.extend_from_slice(b"\nlines\n")?;
     assert!(rt; prints(heap, &script, "line 1: not understood\nno lines\n")?);
+    Ok(())
+}
+
+#[test]
+fn the_longest_line_is_understood_and_no_longer_one(rt: HostRuntime) -> Result<(), Fail> {
+    let heap = rt.alloc();
+    let mut script = long_line(heap, b' ', 999_995)?;
+    script.extend_from_slice(b"lines\n")?;
+    script.extend_from_slice(&long_line(heap, b' ', 999_996)?)?;
+    script.extend_from_slice(b"lines\n")?;
+    assert!(rt; prints(heap, &script, "no lines\nline 2: not understood\n")?);
+    Ok(())
+}
+
+#[test]
+fn numbers_have_no_plus_sign(rt: HostRuntime) -> Result<(), Fail> {
+    let script =
+        b"replay a +1\nreplay a+2\nmatch a a +0 0\nsettle listed +1 1\nsettle weights +1,1,1,1,1,1,1,1 bulk 1 1\nreplay a -0\n";
+    let expected =
+        "line 1: not understood\nline 2: not understood\nline 3: not understood\nline 4: not understood\nline 5: not understood\nrefused 11: replay, place 1\n";
+    assert!(rt; prints(rt.alloc(), script, expected)?);
     Ok(())
 }
 
