@@ -44,7 +44,7 @@ impl<'a> StoredLoad<'a> {
             }
             left /= 2;
         }
-        Load::of(counts)
+        Load::from(counts)
     }
 
     // The byte of its first present count that is 0.

@@ -68,7 +68,7 @@ fn chain_numbers_tell_their_bytes(rt: HostRuntime) -> Result<(), Fail> {
 
 // Whether the load at a byte of the rules' section has so many of the first two articles.
 fn is_load(at: usize, first: u16, second: u16) -> bool {
-    let wanted = Load::of([first, second, 0, 0, 0, 0, 0, 0]);
+    let wanted = Load::from([first, second, 0, 0, 0, 0, 0, 0]);
     Reader::open(WORKED)
         .ok()
         .and_then(|reader| reader.rules.load(at))
