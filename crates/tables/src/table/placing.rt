@@ -9,34 +9,15 @@ use loads::Load;
 use orders::order::{Order, higher};
 use worksheet::rule::Rule;
 
-// Keeps the rules whose left load does not contain the load, in their order.
-fn keep_without(rules: &mut Vec<Rule>, load: &Load)
-    ensures items { rules.new.items ≡ without load.now rules.old.items }
-    ensures capacity { vec_capacity rules.new ≡ vec_capacity rules.old }
-{
-    let mut end = 0;
-    for i in 0..rules.len() {
-        let rule = rules[i];
-        if !rule.left.contains(load) {
-            rules[end] = rule;
-            end += 1;
-        }
-    }
-    rules.truncate(end);
-}
-
 // The place of a rule among rules whose left loads rise.
 fn place_of<O: Order>(order: &O, rules: &[Rule], rule: &Rule) -> usize
     ensures within { result ≤ length rules.now }
     ensures place { insert rules.now result rule.now ≡ enter (O.above order.now) rule.now rules.now }
 {
-    for i in 0..rules.len() {
-        let other = rules[i];
-        if !higher(order, &rule.left, &other.left) {
-            return i;
-        }
-    }
-    rules.len()
+    rules
+        .iter()
+        .position(|other| !higher(order, &rule.left, &other.left))
+        .unwrap_or(rules.len())
 }
 
 // Puts a rule at its place.
@@ -55,20 +36,17 @@ impl Table {
     pub fn kept(&self, load: &Load) -> usize
         ensures { result ≡ length (without load.now (rules_of self.now)) }
     {
-        let mut count = 0;
-        for rule in self.rules.as_slice() {
-            if !rule.left.contains(load) {
-                count += 1;
-            }
-        }
-        count
+        self.rules
+            .iter()
+            .filter(|rule| !rule.left.contains(load))
+            .count()
     }
 
     // Removes the rules whose left load contains the load.
     pub fn remove(&mut self, load: &Load)
         ensures { rules_of self.new ≡ without load.now (rules_of self.old) }
     {
-        keep_without(&mut self.rules, load);
+        self.rules.retain(|rule| !rule.left.contains(load));
     }
 
     // Puts a rule at its place, so that left loads rise. Not where 128 rules are held, or where the rule's line is above 544.

@@ -33,20 +33,22 @@ impl Table {
         ensures { row.new ≡ over_front (forward (trail (rules_of self.now) (length row.old) load.now)) row.old }
     {
         let mut at = *load;
-        for i in 0..row.len() {
+        for place in row.iter_mut() {
             let Some(made) = self.stride(&at) else {
                 return;
             };
-            row[i] = made.line as i16;
+            *place = made.line as i16;
             at = made.load;
         }
     }
 
-    // Writes the line numbers of the same steps the other way round, each backward and the last first, up to the row's back.
+    // Writes the line numbers of the same steps the other way round, each backward and the last first, up to the row's back. It stands beside `follow`:
+    // one function for both would take the order of the places and the sign, and be no plainer than the two.
     pub fn undo(&self, load: &Load, row: &mut [i16])
         ensures { row.new ≡ over_back (undo (forward (trail (rules_of self.now) (length row.old) load.now))) row.old }
     {
         let mut at = *load;
+        // By index: after `iter_mut().rev()` no proof knows what stands in the row.
         for i in (0..row.len()).rev() {
             let Some(made) = self.stride(&at) else {
                 return;

@@ -5,7 +5,7 @@ use Rattle.tables.proofs.Writing.{ahead}
 use Rattle.tables.proofs.table.Table.follow.Given as goal
 
 -- what is still to be written gives what was asked for
-abbrev pub invariant-loop-i : goal.invariant-loop-i
-invariant-loop-i l =
+abbrev pub invariant-loop-place : goal.invariant-loop-place
+invariant-loop-place l =
     over_front (forward (trail (rules_of l.self) (length l.initial.row) l.load)) l.initial.row
-    ≡ ahead l.i (trail (rules_of l.self) (length l.initial.row - l.i) l.at) l.row
+    ≡ ahead l.place-index (trail (rules_of l.self) (length l.initial.row - l.place-index) l.at) l.row
