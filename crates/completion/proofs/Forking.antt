@@ -13,12 +13,11 @@ use Rattle.questions.specs.Questions.{turned_bridge, Cited}
 use Rattle.questions.specs.Asking.{Parting, turned_parting, parting_of, fork_of, turned_fork}
 use Rattle.completion.specs.declared.fault.RoundFault.{RoundFault}
 use Rattle.completion.specs.declared.fault.RoundFault.TheVariants.{Full, NoRoom}
-use Rattle.completion.specs.declared.turn.Turn.{Turn}
-use Rattle.completion.specs.declared.turn.Turn.TheVariants.{Again}
+use Rattle.std.specs.declared.ops.ControlFlow.TheVariants.{Continue}
 use Rattle.completion.specs.Room.{roomy}
 use Rattle.completion.specs.States.{State}
 use Rattle.completion.specs.Adding.{derived, oriented_fork, rule_of, admit}
-use Rattle.completion.specs.Rounds.{a_line, granted, forked, next_line}
+use Rattle.completion.specs.Rounds.{Turn, a_line, granted, forked, next_line}
 
 -- a bridge can be cited from its other end too
 turned_cited : (b : Bridge) → Cited b → Cited (turned_bridge b)
@@ -63,7 +62,7 @@ module _ (above : Relation) (capacity n : ℕ) (f g : Fork) (s : State) (is : g 
   module _ (h : length kept < capacity) where
     room_asked : (b : Bool) → roomy s.added (length new.chain) ≡ b
         → forked above capacity n f s
-        ≡ (check b (NoRoom g.question.place) >>= λ _. Ok (Again g.left, record { table = enter above (rule_of new.claim (next_line n s)) kept; added = s.added ++ (new ∷ []) }))
+        ≡ (check b (NoRoom g.question.place) >>= λ _. Ok (Continue g.left, record { table = enter above (rule_of new.claim (next_line n s)) kept; added = s.added ++ (new ∷ []) }))
     room_asked b e = opened ∙ rw (lt-ltb (length kept) capacity h) (rw e refl)
 
     -- the worksheet has no room
@@ -72,7 +71,7 @@ module _ (above : Relation) (capacity n : ℕ) (f g : Fork) (s : State) (is : g 
 
     -- the rule is added
     pub fork_added : roomy s.added (length new.chain) ≡ true
-        → forked above capacity n f s ≡ Ok (Again g.left, record { table = enter above (rule_of new.claim (next_line n s)) kept; added = s.added ++ (new ∷ []) })
+        → forked above capacity n f s ≡ Ok (Continue g.left, record { table = enter above (rule_of new.claim (next_line n s)) kept; added = s.added ++ (new ∷ []) })
     fork_added = room_asked true
 
     -- the state after it, as the code makes it: us is the table without what is removed, vs with the rule put in

@@ -1,6 +1,6 @@
 -- A right load that some rule fits, and what each way out of its change has shown.
-use Rattle.std.proofs.Common.{◌≡◌, ℕ, ◌+◌, ◌-◌, ◌<◌, ◌≤◌, Bool, true, false, cond, ◌&&◌, ltb, leb, List, [], ◌∷◌, ◌++◌, length, get_or, drop, set, is_some, Some, None, Ok, Err, Result, sym, refl, ap, ◌∙◌, subst, ap₂, arith}
-use Rattle.std.proofs.lemmas.List.{at_drop_more, at_drop_all}
+use Rattle.std.proofs.Common.{◌≡◌, ℕ, ◌+◌, ◌-◌, ◌<◌, ◌≤◌, Bool, true, false, cond, ◌&&◌, ltb, leb, List, [], ◌∷◌, ◌++◌, length, get_or, drop, set, is_some, Some, Ok, Err, Result, sym, refl, ap, ◌∙◌, subst, ap₂, arith}
+use Rattle.std.proofs.lemmas.List.{at_drop_more}
 use Rattle.std.proofs.lemmas.Bool.{lt-ltb, le-leb, and_from, cond-true}
 use Rattle.loads.specs.declared.Load.{Load}
 use Rattle.loads.specs.Answers.{◌>>=◌, check, marked}
@@ -17,7 +17,7 @@ use Rattle.questions.proofs.Walking.{reduce_walked}
 use Rattle.tables.specs.Trails.{trail}
 use Rattle.completion.specs.declared.fault.RoundFault.TheVariants.{Step, NoRoom}
 use Rattle.completion.specs.declared.found.Found.{Found}
-use Rattle.completion.specs.declared.turn.Turn.TheVariants.{Again}
+use Rattle.std.specs.declared.ops.ControlFlow.TheVariants.{Continue}
 use Rattle.completion.specs.Room.{roomy}
 use Rattle.completion.specs.States.{State}
 use Rattle.completion.specs.Adding.{derived, rule_of}
@@ -35,9 +35,6 @@ found_same (r ∷ t) a i = go (contains a r.left) refl (found_same t a (i + 1))
 
 -- the rule at the place i
 module _ (t : List Rule) (i : ℕ) where
-  pub unfinished-end : length t ≤ i → unfinished t i (drop i t) ≡ None
-  unfinished-end h = at_drop_all (λ ys. unfinished t i ys) t i h
-
   module _ (r : Rule) (lt : i < length t) (read : r ≡ get_or t i r) where
     opened : (b : Bool) → is_some (search 0 t r.right) ≡ b → unfinished t i (drop i t) ≡ cond b (Some (record { place = i; rule = r })) (unfinished t (i + 1) (drop (i + 1) t))
     opened b e =
@@ -89,21 +86,21 @@ module _ (n b : ℕ) (f : Found) (s : State) (x : Reduced) (h : Fork) (is : Ok x
   changed k = record { table = set s.table f.place (rule_of (derived (parting_of s.table k)).claim (next_line n s)); added = s.added ++ (derived (parting_of s.table k) ∷ []) }
 
   asked : (c : Bool) → roomy s.added (length (derived (parting_of s.table h)).chain) ≡ c
-      → finished n b f s ≡ (check c (NoRoom (right_place f.place)) >>= λ _. Ok (Again h.left, changed h))
+      → finished n b f s ≡ (check c (NoRoom (right_place f.place)) >>= λ _. Ok (Continue h.left, changed h))
   asked c e =
       let way = reduced_way (right_place f.place) s.table b f.rule.right x is in
       let r = renewal f.rule (right_place f.place) x (b - x.steps) in
       ap (λ y. granted s (marked Step y >>= λ w. Ok (a_line (right_place f.place) (rederived f.rule w) (set s.table f.place (rule_of (rederived f.rule w).claim (next_line n s))) (b - length w.trail)))) way.0
-      ∙ ap (λ k. check (roomy s.added (length (derived (parting_of s.table r)).chain)) (NoRoom (right_place f.place)) >>= λ _. Ok (Again (b - k), changed r)) way.1
-      ∙ ap (λ k. check (roomy s.added (length (derived (parting_of s.table k)).chain)) (NoRoom (right_place f.place)) >>= λ _. Ok (Again k.left, changed k)) (sym same)
-      ∙ ap (λ d. check d (NoRoom (right_place f.place)) >>= λ _. Ok (Again h.left, changed h)) e
+      ∙ ap (λ k. check (roomy s.added (length (derived (parting_of s.table r)).chain)) (NoRoom (right_place f.place)) >>= λ _. Ok (Continue (b - k), changed r)) way.1
+      ∙ ap (λ k. check (roomy s.added (length (derived (parting_of s.table k)).chain)) (NoRoom (right_place f.place)) >>= λ _. Ok (Continue k.left, changed k)) (sym same)
+      ∙ ap (λ d. check d (NoRoom (right_place f.place)) >>= λ _. Ok (Continue h.left, changed h)) e
 
   -- the worksheet has no room
   pub change_no_room : roomy s.added (length (derived (parting_of s.table h)).chain) ≡ false → finished n b f s ≡ Err (NoRoom (right_place f.place))
   change_no_room = asked false
 
   -- the rule is changed
-  pub change_made : roomy s.added (length (derived (parting_of s.table h)).chain) ≡ true → finished n b f s ≡ Ok (Again h.left, changed h)
+  pub change_made : roomy s.added (length (derived (parting_of s.table h)).chain) ≡ true → finished n b f s ≡ Ok (Continue h.left, changed h)
   change_made = asked true
 
   -- the state after it, as the code makes it: vs is the table with the rule put in

@@ -9,10 +9,10 @@ ghost use Rattle.completion.specs.Rounds.{forked};
 use crate::capacity::Capacity;
 use crate::chaining::chain_length;
 use crate::fault::RoundFault;
-use crate::turn::Turn;
 use crate::workings::Workings;
 use orders::order::{Order, higher};
 use questions::question::Fork;
+use std::ops::ControlFlow;
 use worksheet::rule::Rule;
 
 // The fork with the higher end first.
@@ -34,7 +34,7 @@ impl Workings {
         capacity: &Capacity,
         equations: usize,
         fork: &Fork,
-    ) -> Result<Turn, RoundFault>
+    ) -> Result<ControlFlow<u32, u32>, RoundFault>
         requires few { equations ≤ 32 }
         requires counted { fork_of (parting_of (held self.old).table fork.now) ≡ fork.now }
         requires cited { Cited fork.now.question.bridge }
@@ -61,6 +61,6 @@ impl Workings {
                 line,
             },
         );
-        Ok(Turn::Again(fork.left))
+        Ok(ControlFlow::Continue(fork.left))
     }
 }

@@ -7,12 +7,12 @@ ghost use Rattle.completion.specs.Rounds.{finished};
 use crate::chaining::chain_length;
 use crate::fault::RoundFault;
 use crate::found::Found;
-use crate::turn::Turn;
 use crate::workings::Workings;
 use questions::placed::AtPlace;
 use questions::question::{Bridge, Fork, Question};
 use rewriting::reduce::{Reduced, reduce};
 use rewriting::search::search;
+use std::ops::ControlFlow;
 use worksheet::rule::Rule;
 
 // The first rule whose right load some rule fits.
@@ -20,10 +20,9 @@ pub(crate) fn unfinished(rules: &[Rule]) -> Option<Found>
     ensures is { result ≡ unfinished rules.now 0 rules.now }
     ensures stands { IfSome result (λ f. (f.place < length rules.now) × (f.rule ≡ slice_index_or rules.now f.place f.rule)) }
 {
-    for i in 0..rules.len() {
-        let rule = rules[i];
+    for (place, rule) in rules.iter().enumerate() {
         if search(rules, &rule.right).is_some() {
-            return Some(Found { place: i, rule });
+            return Some(Found { place, rule: *rule });
         }
     }
     None
@@ -56,7 +55,7 @@ impl Workings {
         equations: usize,
         found: &Found,
         budget: u32,
-    ) -> Result<Turn, RoundFault>
+    ) -> Result<ControlFlow<u32, u32>, RoundFault>
         requires few { equations ≤ 32 }
         requires within { found.now.place < length (held self.old).table }
         requires stands { found.now.rule ≡ slice_index_or (held self.old).table found.now.place found.now.rule }
@@ -79,6 +78,6 @@ impl Workings {
                 line,
             },
         );
-        Ok(Turn::Again(fork.left))
+        Ok(ControlFlow::Continue(fork.left))
     }
 }
