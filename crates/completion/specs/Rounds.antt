@@ -5,6 +5,7 @@ use Rattle.orders.specs.Laws.{Relation}
 use Rattle.worksheet.specs.declared.equation.Equation.{Equation}
 use Rattle.worksheet.specs.declared.rule.Rule.{Rule}
 use Rattle.questions.specs.Topics.{topics}
+use Rattle.questions.specs.declared.placed.Place.{Place}
 use Rattle.questions.specs.declared.question.Fork.{Fork}
 use Rattle.questions.specs.Asking.{Parting, Ending, met, apart, reduce_at, ask_all, parting_of}
 use Rattle.completion.specs.declared.fault.RoundFault.{RoundFault}
@@ -21,7 +22,7 @@ use Rattle.completion.specs.Changing.{unfinished, right_place, rederived}
 -- what a round asks for, with what is left of the budget: nothing, or a line, and the table that it leads to
 pub data Wish : Type 0 where
   nothing : (left : ℕ) → Wish
-  a_line : (place : ℕ) (new : Derivation) (table : List Rule) (left : ℕ) → Wish
+  a_line : (place : Place) (new : Derivation) (table : List Rule) (left : ℕ) → Wish
 
 -- add the rule of a parting, the higher end to the other; its line has this number
 abbrev pub add : Relation → (capacity number : ℕ) → Parting → List Rule → Result Wish RoundFault

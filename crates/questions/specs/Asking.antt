@@ -8,6 +8,7 @@ use Rattle.rewriting.specs.declared.reduce.Reduced.{Reduced}
 use Rattle.rewriting.specs.declared.reduce.StepFault.{StepFault}
 use Rattle.rewriting.specs.Reducing.{Way, reduce, counted}
 use Rattle.tables.specs.Trails.{trail}
+use Rattle.questions.specs.declared.placed.Place.{Place}
 use Rattle.questions.specs.declared.placed.Placed.{Placed}
 use Rattle.questions.specs.declared.question.Question.{Question}
 use Rattle.questions.specs.declared.question.Fork.{Fork}
@@ -38,7 +39,7 @@ abbrev pub ending : Parting → Ending
 ending p = elim (alike p.first.end p.second.end) [ true ↦ met p.left | false ↦ apart p ]
 
 -- a reduction at a place
-abbrev pub reduce_at : (place : ℕ) → List Rule → (budget : ℕ) → Load → Result Way (Placed StepFault)
+abbrev pub reduce_at : (place : Place) → List Rule → (budget : ℕ) → Load → Result Way (Placed StepFault)
 reduce_at place t b a = marked (placed place) (reduce t b a)
 
 -- reduce the first load, then the second with what is left of the budget

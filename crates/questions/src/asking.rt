@@ -1,11 +1,10 @@
 // Asking questions in order.
 ghost use Rattle.std.specs.Prelude.{◌≡◌, ◌+◌, ◌≤◌, length};
-ghost use Rattle.tables.specs.Rows.{rules_of, equations_of};
 ghost use Rattle.questions.specs.Topics.{entries, peaks_with, peaks, topics};
 ghost use Rattle.questions.specs.Asking.{ask, ask_all, outcome};
 
 use crate::pair::pair;
-use crate::placed::AtPlace;
+use crate::placed::{AtPlace, Place};
 use crate::question::{Bridge, Fork, Question, Stop};
 use rewriting::reduce::reduce;
 use tables::book::Book;
@@ -41,7 +40,7 @@ fn ask_equations(rules: &[Rule], book: &[Equation], budget: u32) -> Result<u32, 
     for (i, equation) in book.iter().enumerate() {
         let number = (i + 1) as u16;
         let question = Question {
-            place: number,
+            place: Place::Entry(number),
             first: equation.left,
             second: equation.right,
             bridge: Bridge::Forward(number),
@@ -80,7 +79,7 @@ fn ask_pairs(rules: &[Rule], budget: u32) -> Result<u32, Stop>
 
 // Asks about the equations of a book, then about the pairs of a table, up to the first question that ends in two loads.
 pub fn ask_all(table: &Table, book: &Book, budget: u32) -> Result<u32, Stop>
-    ensures { result ≡ outcome (ask_all (rules_of table.now) budget (topics (equations_of book.now) (rules_of table.now))) }
+    ensures { result ≡ outcome (ask_all table.now budget (topics book.now table.now)) }
 {
     let rules = table.rules();
     let left = ask_equations(rules, book.equations(), budget)?;

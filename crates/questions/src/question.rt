@@ -4,7 +4,7 @@ ghost use Rattle.questions.specs.Questions.{turned_bridge};
 ghost use Rattle.questions.specs.Asking.{turned_fork};
 ghost use Rattle.questions.specs.declared.question.Stop.TheVariants.{Step};
 
-use crate::placed::Placed;
+use crate::placed::{Place, Placed};
 use loads::Load;
 use rewriting::reduce::{Reduced, StepFault};
 
@@ -17,10 +17,10 @@ pub enum Bridge {
     Peak(u16, u16),
 }
 
-// Two loads of which a round asks whether they end in one, and the place code.
+// Two loads of which a round asks whether they end in one, and the place at which it is asked.
 #[derive(Clone, Copy)]
 pub struct Question {
-    pub place: u16,
+    pub place: Place,
     pub first: Load,
     pub second: Load,
     pub bridge: Bridge,

@@ -6,7 +6,7 @@ ghost use Rattle.refusals.specs.Refusals.{as_refusal, plain, told, word, sentenc
 ghost use Rattle.refusals.specs.declared.Refusal.TheVariants.{Replay, Step};
 
 use completion::fault::RoundFault;
-use questions::placed::Placed;
+use questions::placed::{Place, Placed};
 use rewriting::reduce::StepFault;
 use std::fmt;
 use worksheet::fault::{ReplayFault, SwapFault};
@@ -39,9 +39,9 @@ pub enum Refusal {
     // a step is not made, or a pair cannot be formed
     Step(Placed<StepFault>),
     // the table is at its capacity
-    Full(u16),
+    Full(Place),
     // lines or chain numbers would pass their limit
-    NoRoom(u16),
+    NoRoom(Place),
     // the loads are equal, and the chain is too short
     ShortChain,
     // a chain cannot be followed
@@ -113,15 +113,15 @@ impl Refusal {
                     fault: StepFault::Spent,
                     place,
                 },
-            ) => plain(6, Part::Step, place as usize),
+            ) => plain(6, Part::Step, u16::from(place) as usize),
             Refusal::Step(
                 Placed {
                     fault: StepFault::Overflow,
                     place,
                 },
-            ) => plain(7, Part::Step, place as usize),
-            Refusal::Full(place) => plain(8, Part::Adding, place as usize),
-            Refusal::NoRoom(place) => plain(9, Part::Adding, place as usize),
+            ) => plain(7, Part::Step, u16::from(place) as usize),
+            Refusal::Full(place) => plain(8, Part::Adding, u16::from(place) as usize),
+            Refusal::NoRoom(place) => plain(9, Part::Adding, u16::from(place) as usize),
             Refusal::ShortChain => plain(10, Part::Match, 0),
             Refusal::Replay(
                 ReplayFault {

@@ -53,14 +53,12 @@ impl Workings {
         self.note(&fork);
         let line = (equations + self.lines.len()) as u16;
         self.table.remove(&left);
-        let _ = self.table.put(
-            order,
-            Rule {
-                left,
-                right: fork.second.end,
-                line,
-            },
-        );
+        let rule = Rule {
+            left,
+            right: fork.second.end,
+            line,
+        };
+        self.table.put(order, rule).unwrap();
         Ok(ControlFlow::Continue(fork.left))
     }
 }

@@ -8,7 +8,7 @@ use crate::chaining::chain_length;
 use crate::fault::RoundFault;
 use crate::found::Found;
 use crate::workings::Workings;
-use questions::placed::AtPlace;
+use questions::placed::{AtPlace, Place};
 use questions::question::{Bridge, Fork, Question};
 use rewriting::reduce::{Reduced, reduce};
 use rewriting::search::search;
@@ -29,7 +29,7 @@ pub(crate) fn unfinished(rules: &[Rule]) -> Option<Found>
 }
 
 // The change of a rule as a fork: its line leads from the left load, which stays, to the right load, which is reduced.
-fn renewal(rule: &Rule, place: u16, reduced: &Reduced, left: u32) -> Fork
+fn renewal(rule: &Rule, place: Place, reduced: &Reduced, left: u32) -> Fork
     ensures { result ≡ renewal rule.now place reduced.now left }
 {
     Fork {
@@ -62,22 +62,21 @@ impl Workings {
         ensures value { result ≡ answered (finished equations budget found.now (held self.old)) }
         ensures after { held self.new ≡ leaves (held self.old) (finished equations budget found.now (held self.old)) }
     {
-        let place = (32768 + (found.place + 1)) as u16;
-        let reduced = reduce(self.table.rules(), &found.rule.right, budget).at(place)?;
+        let rules = self.table.rules();
+        let place = Place::RightLoad((found.place + 1) as u8);
+        let reduced = reduce(rules, &found.rule.right, budget).at(place)?;
         let fork = renewal(&found.rule, place, &reduced, budget - reduced.steps);
         if !self.has_room(chain_length(&fork)) {
             return Err(RoundFault::NoRoom(place));
         }
         self.note(&fork);
         let line = (equations + self.lines.len()) as u16;
-        let _ = self.table.replace(
-            found.place,
-            Rule {
-                left: found.rule.left,
-                right: reduced.end,
-                line,
-            },
-        );
+        let renewed = Rule {
+            left: found.rule.left,
+            right: reduced.end,
+            line,
+        };
+        self.table.replace(found.place, renewed).unwrap();
         Ok(ControlFlow::Continue(fork.left))
     }
 }

@@ -1,6 +1,5 @@
 // The rounds that settle a book.
 ghost use Rattle.std.specs.Prelude.{◌≡◌};
-ghost use Rattle.tables.specs.Rows.{equations_of};
 ghost use Rattle.completion.specs.States.{blank, held, answered, leaves};
 ghost use Rattle.completion.specs.Rounds.{round, settle};
 
@@ -25,11 +24,12 @@ impl Workings {
         book: &Book,
         budget: u32,
     ) -> Result<ControlFlow<u32, u32>, RoundFault>
-        ensures value { result ≡ answered (round (O.above order.now) capacity.now.rules (equations_of book.now) budget (held self.old)) }
-        ensures after { held self.new ≡ leaves (held self.old) (round (O.above order.now) capacity.now.rules (equations_of book.now) budget (held self.old)) }
+        ensures value { result ≡ answered (round (O.above order.now) capacity.now.rules book.now budget (held self.old)) }
+        ensures after { held self.new ≡ leaves (held self.old) (round (O.above order.now) capacity.now.rules book.now budget (held self.old)) }
     {
+        let rules = self.table.rules();
         match ask_all(&self.table, book, budget) {
-            Ok(left) => match unfinished(self.table.rules()) {
+            Ok(left) => match unfinished(rules) {
                 Some(found) => self.change(book.equations().len(), &found, left),
                 None => Ok(ControlFlow::Break(left)),
             },
@@ -47,8 +47,8 @@ impl Workings {
         book: &Book,
         budget: u32,
     ) -> Result<u32, RoundFault>
-        ensures value { result ≡ answered (settle (O.above order.now) capacity.now.rules (equations_of book.now) budget) }
-        ensures after { held self.new ≡ leaves blank (settle (O.above order.now) capacity.now.rules (equations_of book.now) budget) }
+        ensures value { result ≡ answered (settle (O.above order.now) capacity.now.rules book.now budget) }
+        ensures after { held self.new ≡ leaves blank (settle (O.above order.now) capacity.now.rules book.now budget) }
     {
         self.clear();
         let mut left = budget;

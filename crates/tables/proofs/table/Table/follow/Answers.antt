@@ -1,6 +1,5 @@
 use Rattle.std.proofs.Common.{◌≡◌, ◌+◌, ◌-◌, length, sym, ap, ◌∙◌, arith}
 use Rattle.std.proofs.lemmas.List.{set-get_or}
-use Rattle.tables.specs.Rows.{rules_of}
 use Rattle.tables.specs.Trails.{trail}
 use Rattle.tables.proofs.Signs.{cited_ahead}
 use Rattle.tables.proofs.Strides.{trail-none, trail-some}
@@ -10,13 +9,13 @@ use Rattle.tables.proofs.table.Table.follow.Goals as goal
 pub returns-in_default : goal.returns-in_default
 returns-in_default c =
     let l = c.loop-place in
-    let t = rules_of c.args.self.now in
+    let t = c.args.self.now in
     set-get_or l.row l.place-index _ ∙ sym (l.invariant ∙ ahead_none l.place-index _ l.row (trail-none t l.at (length c.args.row.now - l.place-index) (sym c.in_default.ensures.is)))
 
 pub loop-place-preserved : goal.loop-place-preserved
 loop-place-preserved c =
     let l = c.loop-place in
-    let t = rules_of c.args.self.now in
+    let t = c.args.self.now in
     let n = length c.args.row.now in
     let s = c.in-Some.made in
     l.invariant
@@ -27,4 +26,4 @@ pub returns : goal.returns
 returns c =
     let l = c.loop-place in
     let none : length c.args.row.now - l.place-index ≡ 0 = omega arith in
-    sym (l.invariant ∙ ahead_none l.place-index _ l.row (ap (λ n. trail (rules_of c.args.self.now) n l.at) none))
+    sym (l.invariant ∙ ahead_none l.place-index _ l.row (ap (λ n. trail c.args.self.now n l.at) none))

@@ -1,6 +1,5 @@
 use Rattle.std.proofs.Common.{◌≡◌, vec_items, ap, ◌∙◌, arith, rules}
 use Rattle.std.proofs.lemmas.Fn.{filter_same}
-use Rattle.tables.specs.Rows.{rules_of}
 use Rattle.tables.specs.Placing.{without}
 use Rattle.tables.specs.Citing.{citable}
 use Rattle.tables.proofs.Citing.{citable-without}
@@ -8,10 +7,10 @@ use Rattle.tables.proofs.table.Table.remove.Goals as goal
 
 -- the rules that stay
 pub returns : goal.returns
-returns c = filter_same _ _ _ (λ x b f' k. search rules) _ _ c.retain.ensures.filtered
+returns c = filter_same _ _ _ (λ x b f' k. search rules) _ _ c.retain.ensures.filtered ∙ ap (without c.args.load.now) c.self.view_is
 
 pub invariant_of-self : goal.invariant_of-self
 invariant_of-self c =
-    let t = rules_of c.args.self.now in
+    let t = vec_items c.self.inside.rules in
     let kept : vec_items c.retain.new.self ≡ without c.args.load.now t = filter_same _ _ _ (λ x b f' k. search rules) _ _ c.retain.ensures.filtered in
-    record { room = omega arith; few = omega arith; cited = ap citable kept ∙ citable-without c.args.load.now t c.args.self.now.cited }
+    record { room = omega arith; few = omega arith; cited = ap citable kept ∙ citable-without c.args.load.now t c.self.invariant.cited }
