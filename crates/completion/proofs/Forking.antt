@@ -1,11 +1,12 @@
 -- The rule of a fork: what each way out of the call has shown.
-use Rattle.std.proofs.Common.{◌≡◌, ℕ, ◌<◌, ◌≤◌, Bool, true, false, cond, ◌&&◌, ltb, leb, List, [], ◌∷◌, ◌++◌, length, Ok, Err, Result, sym, refl, ap, ◌∙◌, subst, ap₂, arith}
-use Rattle.std.proofs.lemmas.Bool.{lt-ltb, le-ltb, le-leb, and_from, cond-true, cond_both}
+use Rattle.std.proofs.Common.{◌≡◌, ℕ, ◌<◌, ◌≤◌, Bool, true, false, cond, List, [], ◌∷◌, ◌++◌, length, Ok, Err, Result, sym, refl, ap, ◌∙◌, subst, ap₂}
+use Rattle.std.proofs.lemmas.Bool.{lt-ltb, le-ltb, cond-true, cond_both}
 use Rattle.loads.specs.Answers.{◌>>=◌, check}
 use Rattle.orders.specs.Laws.{Relation}
 use Rattle.worksheet.specs.declared.rule.Rule.{Rule}
 use Rattle.worksheet.specs.Derivations.{Derivation}
 use Rattle.tables.specs.Placing.{without, enter}
+use Rattle.questions.specs.declared.placed.Place.{Place}
 use Rattle.questions.specs.declared.question.Bridge.{Bridge}
 use Rattle.questions.specs.declared.question.Bridge.TheVariants.{Forward, Backward, Peak}
 use Rattle.questions.specs.declared.question.Fork.{Fork}
@@ -13,12 +14,11 @@ use Rattle.questions.specs.Questions.{turned_bridge, Cited}
 use Rattle.questions.specs.Asking.{Parting, turned_parting, parting_of, fork_of, turned_fork}
 use Rattle.completion.specs.declared.fault.RoundFault.{RoundFault}
 use Rattle.completion.specs.declared.fault.RoundFault.TheVariants.{Full, NoRoom}
-use Rattle.completion.specs.declared.turn.Turn.{Turn}
-use Rattle.completion.specs.declared.turn.Turn.TheVariants.{Again}
+use Rattle.std.specs.declared.ops.ControlFlow.TheVariants.{Continue}
 use Rattle.completion.specs.Room.{roomy}
 use Rattle.completion.specs.States.{State}
 use Rattle.completion.specs.Adding.{derived, oriented_fork, rule_of, admit}
-use Rattle.completion.specs.Rounds.{a_line, granted, forked, next_line}
+use Rattle.completion.specs.Rounds.{Turn, a_line, granted, forked, next_line}
 
 -- a bridge can be cited from its other end too
 turned_cited : (b : Bridge) → Cited b → Cited (turned_bridge b)
@@ -38,7 +38,7 @@ module _ (above : Relation) (t : List Rule) (f g : Fork) (is : g ≡ oriented_fo
 
 module _ (above : Relation) (capacity n : ℕ) (f g : Fork) (s : State) (is : g ≡ oriented_fork above f) where
   -- what comes of a parting whose higher end is first
-  abbrev by : (place left : ℕ) → Parting → Result (Turn × State) RoundFault
+  abbrev by : (place : Place) (left : ℕ) → Parting → Result (Turn × State) RoundFault
   by place left p = granted s (admit above capacity place (rule_of (derived p).claim (next_line n s)) s.table >>= λ t'. Ok (a_line place (derived p) t' left))
 
   opened : forked above capacity n f s ≡ by g.question.place g.left (parting_of s.table g)
@@ -63,7 +63,7 @@ module _ (above : Relation) (capacity n : ℕ) (f g : Fork) (s : State) (is : g 
   module _ (h : length kept < capacity) where
     room_asked : (b : Bool) → roomy s.added (length new.chain) ≡ b
         → forked above capacity n f s
-        ≡ (check b (NoRoom g.question.place) >>= λ _. Ok (Again g.left, record { table = enter above (rule_of new.claim (next_line n s)) kept; added = s.added ++ (new ∷ []) }))
+        ≡ (check b (NoRoom g.question.place) >>= λ _. Ok (Continue g.left, record { table = enter above (rule_of new.claim (next_line n s)) kept; added = s.added ++ (new ∷ []) }))
     room_asked b e = opened ∙ rw (lt-ltb (length kept) capacity h) (rw e refl)
 
     -- the worksheet has no room
@@ -72,15 +72,13 @@ module _ (above : Relation) (capacity n : ℕ) (f g : Fork) (s : State) (is : g 
 
     -- the rule is added
     pub fork_added : roomy s.added (length new.chain) ≡ true
-        → forked above capacity n f s ≡ Ok (Again g.left, record { table = enter above (rule_of new.claim (next_line n s)) kept; added = s.added ++ (new ∷ []) })
+        → forked above capacity n f s ≡ Ok (Continue g.left, record { table = enter above (rule_of new.claim (next_line n s)) kept; added = s.added ++ (new ∷ []) })
     fork_added = room_asked true
 
     -- the state after it, as the code makes it: us is the table without what is removed, vs with the rule put in
-    pub fork_left : (us vs : List Rule) (line : ℕ) (b : Bool) (ads : List Derivation) → capacity ≤ 128 → line ≤ 544
-        → us ≡ kept → b ≡ (ltb (length us) 128 && leb line 544) → vs ≡ cond b (enter above (rule_of new.claim line) us) us → ads ≡ s.added ++ (new ∷ []) → line ≡ next_line n s
+    pub fork_left : (us vs : List Rule) (line : ℕ) (b : Bool) (ads : List Derivation)
+        → us ≡ kept → b ≡ true → vs ≡ cond b (enter above (rule_of new.claim line) us) us → ads ≡ s.added ++ (new ∷ []) → line ≡ next_line n s
         → ◌≡◌ {A = State} (record { table = vs; added = ads }) (record { table = enter above (rule_of new.claim (next_line n s)) kept; added = s.added ++ (new ∷ []) })
-    fork_left us vs line b ads few low is_us is_b is-vs is-ads is-line =
-        let fewer = ap length is_us in
-        let yes-b : b ≡ true = is_b ∙ and_from (ltb (length us) 128) (leb line 544) (lt-ltb (length us) 128 (omega arith)) (le-leb line 544 low) in
+    fork_left us vs line b ads is_us went is-vs is-ads is-line =
         ap₂ (λ x y. record { table = x; added = y })
-        (is-vs ∙ cond-true b (enter above (rule_of new.claim line) us) us yes-b ∙ ap₂ (λ l u. enter above (rule_of new.claim l) u) is-line is_us) is-ads
+        (is-vs ∙ cond-true b (enter above (rule_of new.claim line) us) us went ∙ ap₂ (λ l u. enter above (rule_of new.claim l) u) is-line is_us) is-ads

@@ -1,7 +1,7 @@
 -- A right load that some rule fits, and what each way out of its change has shown.
-use Rattle.std.proofs.Common.{◌≡◌, ℕ, ◌+◌, ◌-◌, ◌<◌, ◌≤◌, Bool, true, false, cond, ◌&&◌, ltb, leb, List, [], ◌∷◌, ◌++◌, length, get_or, drop, set, is_some, Some, None, Ok, Err, Result, sym, refl, ap, ◌∙◌, subst, ap₂, arith}
-use Rattle.std.proofs.lemmas.List.{at_drop_more, at_drop_all}
-use Rattle.std.proofs.lemmas.Bool.{lt-ltb, le-leb, and_from, cond-true}
+use Rattle.std.proofs.Common.{◌≡◌, ℕ, ◌+◌, ◌-◌, ◌<◌, Bool, true, false, cond, List, [], ◌∷◌, ◌++◌, length, get_or, drop, set, is_some, Some, Ok, Err, Result, sym, refl, ap, ◌∙◌, subst, ap₂, arith}
+use Rattle.std.proofs.lemmas.List.{at_drop_more}
+use Rattle.std.proofs.lemmas.Bool.{cond-true}
 use Rattle.loads.specs.declared.Load.{Load}
 use Rattle.loads.specs.Answers.{◌>>=◌, check, marked}
 use Rattle.loads.specs.Tests.{contains}
@@ -10,6 +10,7 @@ use Rattle.worksheet.specs.Derivations.{Derivation}
 use Rattle.rewriting.specs.declared.reduce.Reduced.{Reduced}
 use Rattle.rewriting.specs.declared.reduce.StepFault.{StepFault}
 use Rattle.rewriting.specs.Reducing.{fitting, search, Way, reduce, counted, told}
+use Rattle.questions.specs.declared.placed.Place.{Place}
 use Rattle.questions.specs.declared.question.Fork.{Fork}
 use Rattle.questions.specs.Placed.{placed}
 use Rattle.questions.specs.Asking.{reduce_at, way_of, parting_of, fork_of}
@@ -17,7 +18,7 @@ use Rattle.questions.proofs.Walking.{reduce_walked}
 use Rattle.tables.specs.Trails.{trail}
 use Rattle.completion.specs.declared.fault.RoundFault.TheVariants.{Step, NoRoom}
 use Rattle.completion.specs.declared.found.Found.{Found}
-use Rattle.completion.specs.declared.turn.Turn.TheVariants.{Again}
+use Rattle.std.specs.declared.ops.ControlFlow.TheVariants.{Continue}
 use Rattle.completion.specs.Room.{roomy}
 use Rattle.completion.specs.States.{State}
 use Rattle.completion.specs.Adding.{derived, rule_of}
@@ -35,9 +36,6 @@ found_same (r ∷ t) a i = go (contains a r.left) refl (found_same t a (i + 1))
 
 -- the rule at the place i
 module _ (t : List Rule) (i : ℕ) where
-  pub unfinished-end : length t ≤ i → unfinished t i (drop i t) ≡ None
-  unfinished-end h = at_drop_all (λ ys. unfinished t i ys) t i h
-
   module _ (r : Rule) (lt : i < length t) (read : r ≡ get_or t i r) where
     opened : (b : Bool) → is_some (search 0 t r.right) ≡ b → unfinished t i (drop i t) ≡ cond b (Some (record { place = i; rule = r })) (unfinished t (i + 1) (drop (i + 1) t))
     opened b e =
@@ -54,12 +52,12 @@ module _ (t : List Rule) (i : ℕ) where
     unfinished_next = opened false
 
 -- what is told of a reduction in t, as the code hears it of u, which has the same rules
-pub told_at : (place : ℕ) (t u : List Rule) (b : ℕ) (a : Load) (x : Reduced) (y : Result Reduced StepFault) → Ok x ≡ marked (placed place) y → y ≡ told (reduce u b a) → u ≡ t
+pub told_at : (place : Place) (t u : List Rule) (b : ℕ) (a : Load) (x : Reduced) (y : Result Reduced StepFault) → Ok x ≡ marked (placed place) y → y ≡ told (reduce u b a) → u ≡ t
     → Ok x ≡ marked (placed place) (told (reduce t b a))
 told_at place t u b a x y e f same = e ∙ ap (marked (placed place)) (f ∙ ap (λ v. told (reduce v b a)) same)
 
 -- a reduction whose end and steps are told
-module _ (place : ℕ) (t : List Rule) (b : ℕ) (a : Load) (x : Reduced) (is : Ok x ≡ marked (placed place) (told (reduce t b a))) where
+module _ (place : Place) (t : List Rule) (b : ℕ) (a : Load) (x : Reduced) (is : Ok x ≡ marked (placed place) (told (reduce t b a))) where
   pub reduced_way : (reduce_at place t b a ≡ Ok (way_of t a x)) × (length (trail t x.steps a) ≡ x.steps)
   reduced_way = go (reduce t b a) refl
     where
@@ -89,30 +87,28 @@ module _ (n b : ℕ) (f : Found) (s : State) (x : Reduced) (h : Fork) (is : Ok x
   changed k = record { table = set s.table f.place (rule_of (derived (parting_of s.table k)).claim (next_line n s)); added = s.added ++ (derived (parting_of s.table k) ∷ []) }
 
   asked : (c : Bool) → roomy s.added (length (derived (parting_of s.table h)).chain) ≡ c
-      → finished n b f s ≡ (check c (NoRoom (right_place f.place)) >>= λ _. Ok (Again h.left, changed h))
+      → finished n b f s ≡ (check c (NoRoom (right_place f.place)) >>= λ _. Ok (Continue h.left, changed h))
   asked c e =
       let way = reduced_way (right_place f.place) s.table b f.rule.right x is in
       let r = renewal f.rule (right_place f.place) x (b - x.steps) in
       ap (λ y. granted s (marked Step y >>= λ w. Ok (a_line (right_place f.place) (rederived f.rule w) (set s.table f.place (rule_of (rederived f.rule w).claim (next_line n s))) (b - length w.trail)))) way.0
-      ∙ ap (λ k. check (roomy s.added (length (derived (parting_of s.table r)).chain)) (NoRoom (right_place f.place)) >>= λ _. Ok (Again (b - k), changed r)) way.1
-      ∙ ap (λ k. check (roomy s.added (length (derived (parting_of s.table k)).chain)) (NoRoom (right_place f.place)) >>= λ _. Ok (Again k.left, changed k)) (sym same)
-      ∙ ap (λ d. check d (NoRoom (right_place f.place)) >>= λ _. Ok (Again h.left, changed h)) e
+      ∙ ap (λ k. check (roomy s.added (length (derived (parting_of s.table r)).chain)) (NoRoom (right_place f.place)) >>= λ _. Ok (Continue (b - k), changed r)) way.1
+      ∙ ap (λ k. check (roomy s.added (length (derived (parting_of s.table k)).chain)) (NoRoom (right_place f.place)) >>= λ _. Ok (Continue k.left, changed k)) (sym same)
+      ∙ ap (λ d. check d (NoRoom (right_place f.place)) >>= λ _. Ok (Continue h.left, changed h)) e
 
   -- the worksheet has no room
   pub change_no_room : roomy s.added (length (derived (parting_of s.table h)).chain) ≡ false → finished n b f s ≡ Err (NoRoom (right_place f.place))
   change_no_room = asked false
 
   -- the rule is changed
-  pub change_made : roomy s.added (length (derived (parting_of s.table h)).chain) ≡ true → finished n b f s ≡ Ok (Again h.left, changed h)
+  pub change_made : roomy s.added (length (derived (parting_of s.table h)).chain) ≡ true → finished n b f s ≡ Ok (Continue h.left, changed h)
   change_made = asked true
 
   -- the state after it, as the code makes it: vs is the table with the rule put in
-  pub change-left : (t vs : List Rule) (line : ℕ) (c : Bool) (ads : List Derivation) → f.place < length s.table → line ≤ 544
-      → t ≡ s.table → c ≡ (ltb f.place (length t) && leb line 544) → vs ≡ cond c (set t f.place (record { left = f.rule.left; right = x.end; line = line })) t
+  pub change-left : (t vs : List Rule) (line : ℕ) (c : Bool) (ads : List Derivation)
+      → t ≡ s.table → c ≡ true → vs ≡ cond c (set t f.place (record { left = f.rule.left; right = x.end; line = line })) t
       → ads ≡ s.added ++ (derived (parting_of s.table h) ∷ []) → line ≡ next_line n s → ◌≡◌ {A = State} (record { table = vs; added = ads }) (changed h)
-  change-left t vs line c ads within low is-t is_c is-vs is-ads is-line =
-      let long = ap length is-t in
-      let yes-c : c ≡ true = is_c ∙ and_from (ltb f.place (length t)) (leb line 544) (lt-ltb f.place (length t) (omega arith)) (le-leb line 544 low) in
+  change-left t vs line c ads is-t went is-vs is-ads is-line =
       let claim = ap (λ (k : Fork). rule_of (derived (parting_of s.table k)).claim line) (sym same) in
       ap₂ (λ u v. record { table = u; added = v })
-      (is-vs ∙ cond-true c (set t f.place _) t yes-c ∙ ap₂ (λ r u. set u f.place r) (claim ∙ ap (rule_of (derived (parting_of s.table h)).claim) is-line) is-t) is-ads
+      (is-vs ∙ cond-true c (set t f.place _) t went ∙ ap₂ (λ r u. set u f.place r) (claim ∙ ap (rule_of (derived (parting_of s.table h)).claim) is-line) is-t) is-ads

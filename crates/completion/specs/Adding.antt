@@ -6,6 +6,7 @@ use Rattle.worksheet.specs.declared.equation.Equation.{Equation}
 use Rattle.worksheet.specs.declared.rule.Rule.{Rule}
 use Rattle.tables.specs.Placing.{without, enter}
 use Rattle.tables.specs.Trails.{forward, undo}
+use Rattle.questions.specs.declared.placed.Place.{Place}
 use Rattle.questions.specs.declared.question.Bridge.{Bridge}
 use Rattle.questions.specs.declared.question.Bridge.TheVariants.{Forward, Backward, Peak}
 use Rattle.questions.specs.declared.question.Fork.{Fork}
@@ -40,7 +41,7 @@ abbrev pub rule_of : Equation → ℕ → Rule
 rule_of e n = record { left = e.left; right = e.right; line = n }
 
 -- the table with a rule more: rules whose left load contains its left load are removed; then the capacity is checked; then the rule goes to its place
-abbrev pub admit : Relation → (capacity place : ℕ) → Rule → List Rule → Result (List Rule) RoundFault
+abbrev pub admit : Relation → (capacity : ℕ) (place : Place) → Rule → List Rule → Result (List Rule) RoundFault
 admit above capacity place r t =
     check (nat_lt (length (without r.left t)) capacity) (Full place) >>= λ _.
     Ok (enter above r (without r.left t))

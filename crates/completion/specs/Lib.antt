@@ -1,3 +1,4 @@
+pub mod Capacities
 pub mod Room
 pub mod States
 pub mod Adding

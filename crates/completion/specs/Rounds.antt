@@ -5,13 +5,14 @@ use Rattle.orders.specs.Laws.{Relation}
 use Rattle.worksheet.specs.declared.equation.Equation.{Equation}
 use Rattle.worksheet.specs.declared.rule.Rule.{Rule}
 use Rattle.questions.specs.Topics.{topics}
+use Rattle.questions.specs.declared.placed.Place.{Place}
 use Rattle.questions.specs.declared.question.Fork.{Fork}
 use Rattle.questions.specs.Asking.{Parting, Ending, met, apart, reduce_at, ask_all, parting_of}
 use Rattle.completion.specs.declared.fault.RoundFault.{RoundFault}
 use Rattle.completion.specs.declared.fault.RoundFault.TheVariants.{Step, NoRoom}
 use Rattle.completion.specs.declared.found.Found.{Found}
-use Rattle.completion.specs.declared.turn.Turn.{Turn}
-use Rattle.completion.specs.declared.turn.Turn.TheVariants.{Settled, Again}
+use Rattle.std.specs.declared.ops.ControlFlow.{ControlFlow}
+use Rattle.std.specs.declared.ops.ControlFlow.TheVariants.{Break, Continue}
 use Rattle.worksheet.specs.Derivations.{Derivation}
 use Rattle.completion.specs.Room.{roomy}
 use Rattle.completion.specs.States.{State, blank}
@@ -21,7 +22,7 @@ use Rattle.completion.specs.Changing.{unfinished, right_place, rederived}
 -- what a round asks for, with what is left of the budget: nothing, or a line, and the table that it leads to
 pub data Wish : Type 0 where
   nothing : (left : ℕ) → Wish
-  a_line : (place : ℕ) (new : Derivation) (table : List Rule) (left : ℕ) → Wish
+  a_line : (place : Place) (new : Derivation) (table : List Rule) (left : ℕ) → Wish
 
 -- add the rule of a parting, the higher end to the other; its line has this number
 abbrev pub add : Relation → (capacity number : ℕ) → Parting → List Rule → Result Wish RoundFault
@@ -50,12 +51,16 @@ next_line n s = n + length s.added + 1
 abbrev pub wish : Relation → (capacity : ℕ) → List Equation → (budget : ℕ) → State → Result Wish RoundFault
 wish above capacity book b s = marked Step (ask_all s.table b (topics book s.table)) >>= proceed above capacity (next_line (length book) s) s.table
 
+-- what a round comes to, with what is left of the budget: a break where the book is settled; or a line was added, and another round follows
+abbrev pub Turn : Type 0
+Turn = ControlFlow ℕ ℕ
+
 -- note the line, if there is room for it
 abbrev pub note : State → Wish → Result (Turn × State) RoundFault
-note s (nothing left) = Ok (Settled left, s)
+note s (nothing left) = Ok (Break left, s)
 note s (a_line place new t left) =
     check (roomy s.added (length new.chain)) (NoRoom place) >>= λ _.
-    Ok (Again left, record { table = t; added = s.added ++ (new ∷ []) })
+    Ok (Continue left, record { table = t; added = s.added ++ (new ∷ []) })
 
 -- what comes of a wish
 abbrev pub granted : State → Result Wish RoundFault → Result (Turn × State) RoundFault
@@ -82,7 +87,7 @@ abbrev pub rounds : Relation → (capacity : ℕ) → List Equation → (lines b
 rounds above capacity book zero b s = wish above capacity book b s >>= no_more s
 rounds above capacity book (suc n) b s =
     round above capacity book b s >>= λ x.
-    elim x.0 [ Settled left ↦ Ok (left, x.1) | Again left ↦ rounds above capacity book n left x.1 ]
+    elim x.0 [ Break left ↦ Ok (left, x.1) | Continue left ↦ rounds above capacity book n left x.1 ]
 
 -- from an empty table; the steps made
 abbrev pub settle : Relation → (capacity : ℕ) → List Equation → (budget : ℕ) → Result (ℕ × State) RoundFault

@@ -3,7 +3,6 @@ use Rattle.std.specs.Prelude.{List, [], ℤ, Ok, Err, vec_items, Result}
 use Rattle.loads.specs.Answers.{◌>>=◌}
 use Rattle.worksheet.specs.declared.line.Line.{Line}
 use Rattle.worksheet.specs.declared.rule.Rule.{Rule}
-use Rattle.tables.specs.Rows.{rules_of}
 use Rattle.completion.specs.declared.workings.Workings.{Workings}
 use Rattle.worksheet.specs.Derivations.{Derivation, derivations}
 
@@ -25,7 +24,7 @@ chain_of w = vec_items w.chain
 
 -- what the workings hold
 abbrev pub held : Workings → State
-held w = record { table = rules_of w.table; added = derivations (lines_of w) (chain_of w) }
+held w = record { table = w.table; added = derivations (lines_of w) (chain_of w) }
 
 -- what a call answers
 abbrev pub answered : {X S E : Type 0} → Result (X × S) E → Result X E

@@ -9,4 +9,8 @@ pub struct Capacity {
     ghost few: { rules ≤ 128 },
 }
 
+// A number that is no capacity: it is 0, or more than 128.
+#[derive(Clone, Copy, PartialEq, Eq, Debug)]
+pub struct NoCapacity(pub usize);
+
 pub mod limits;

@@ -1,6 +1,5 @@
 // The chain of a fork, written into a row.
 ghost use Rattle.std.specs.Prelude.{◌≡◌, ◌+◌, ◌≤◌, ◌++◌, length, vec_len, vec_capacity};
-ghost use Rattle.tables.specs.Rows.{rules_of};
 ghost use Rattle.questions.specs.Questions.{Cited};
 ghost use Rattle.questions.specs.Asking.{parting_of, fork_of};
 ghost use Rattle.completion.specs.Adding.{between, derived};
@@ -43,10 +42,10 @@ pub(crate) fn chain_length(fork: &Fork) -> usize
 
 // Writes the chain of a fork: from its first end back to its first load, over to its second load, and on to its second end.
 fn write_chain(table: &Table, fork: &Fork, row: &mut [i16])
-    requires counted { fork_of (parting_of (rules_of table.now) fork.now) ≡ fork.now }
+    requires counted { fork_of (parting_of table.now fork.now) ≡ fork.now }
     requires cited { Cited fork.now.question.bridge }
     requires long { length row.old ≡ fork.now.first.steps + (length (between fork.now.question.bridge) + fork.now.second.steps) }
-    ensures { row.new ≡ (derived (parting_of (rules_of table.now) fork.now)).chain }
+    ensures { row.new ≡ (derived (parting_of table.now fork.now)).chain }
 {
     let start = fork.first.steps as usize;
     let end = start + span(&fork.question.bridge);
@@ -57,10 +56,10 @@ fn write_chain(table: &Table, fork: &Fork, row: &mut [i16])
 
 // Adds the chain of a fork at the end of a row that has room for it.
 pub(crate) fn push_chain(table: &Table, fork: &Fork, row: &mut Vec<i16>)
-    requires counted { fork_of (parting_of (rules_of table.now) fork.now) ≡ fork.now }
+    requires counted { fork_of (parting_of table.now fork.now) ≡ fork.now }
     requires cited { Cited fork.now.question.bridge }
     requires room { vec_len row.old + (fork.now.first.steps + (length (between fork.now.question.bridge) + fork.now.second.steps)) ≤ vec_capacity row.old }
-    ensures items { row.new.items ≡ row.old.items ++ (derived (parting_of (rules_of table.now) fork.now)).chain }
+    ensures items { row.new.items ≡ row.old.items ++ (derived (parting_of table.now fork.now)).chain }
     ensures len { vec_len row.new ≡ vec_len row.old + (fork.now.first.steps + (length (between fork.now.question.bridge) + fork.now.second.steps)) }
     ensures capacity { vec_capacity row.old ≤ vec_capacity row.new }
 {

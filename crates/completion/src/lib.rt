@@ -5,5 +5,4 @@ pub mod capacity;
 pub mod chaining;
 pub mod fault;
 pub mod found;
-pub mod turn;
 pub mod workings;

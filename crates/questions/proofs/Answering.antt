@@ -1,5 +1,7 @@
 -- What holds of an answer, one step after another.
-use Rattle.std.proofs.Common.{◌≡◌, ℕ, IfOk, Ok, Err, Result, refl, subst, arith}
+use Rattle.std.proofs.Common.{◌≡◌, ℕ, MatchResult, IfOk, Ok, Err, Result, refl, ap, ◌∙◌, subst, arith}
+use Rattle.std.specs.Result.{IsErrAnd}
+use Rattle.std.proofs.lemmas.Result.{err_from_is_err_and}
 use Rattle.loads.specs.Answers.{◌>>=◌, marked}
 
 -- where what follows an answer has it, the whole has it
@@ -15,3 +17,8 @@ made_at {X} {E} P x v e h = subst (λ (y : Result X E). IfOk y P) e h
 pub marked_ok : {X E F : Type 0} (f : E → F) (x : Result X E) (v : X) → marked f x ≡ Ok v → x ≡ Ok v
 marked_ok f (Ok w) v e = let s : w ≡ v = cc in rw s refl
 marked_ok f (Err d) v e = let z : ◌≡◌ {A = ℕ} 0 1 = cc in absurd (omega arith)
+
+-- an answer whose refusals are all told as d
+pub told_as : {X E D : Type 0} (P : E → D → Type 0) (d : D) (x : Result X E) (r : Result X D) → ((e : E) (z : D) → P e z → z ≡ d) → MatchResult x (λ y. r ≡ Ok y) (λ e. IsErrAnd r (P e)) → r ≡ marked (λ _. d) x
+told_as P d (Ok y) r h c = c
+told_as P d (Err e) r h c = let p = err_from_is_err_and r c in p.1 ∙ ap Err (h e p.0 p.2)

@@ -10,13 +10,14 @@ use Rattle.rewriting.specs.Swaps.{equation_of}
 use Rattle.rewriting.specs.Settled.{reduct}
 use Rattle.tables.specs.Citing.{citable}
 use Rattle.tables.proofs.Citing.{citable_parts}
+use Rattle.questions.specs.declared.placed.Place.TheVariants.{Pair}
 use Rattle.questions.specs.declared.placed.Placed.{Placed}
 use Rattle.questions.specs.declared.question.Question.{Question}
 use Rattle.questions.specs.declared.question.Fork.{Fork}
-use Rattle.questions.specs.declared.question.Outcome.TheVariants.{Forked}
+use Rattle.questions.specs.declared.question.Stop.TheVariants.{Forked}
 use Rattle.questions.specs.Placed.{placed}
 use Rattle.questions.specs.Topics.{Topic, entry, peak, entries, peaks_with, peaks, topics}
-use Rattle.questions.specs.Questions.{pair_place, form, Cited}
+use Rattle.questions.specs.Questions.{form, Cited}
 use Rattle.questions.specs.Asking.{Parting, Ending, met, apart, ending, reduce_at, ask, go_on, ask_all, fork_of, outcome}
 use Rattle.questions.proofs.Answering.{made_bind, made_at}
 use Rattle.questions.proofs.Walking.{Walked, reduce_walked}
@@ -57,8 +58,8 @@ cite_peaks i (r ∷ t) c =
 form_cited : (k : Topic) → Cites k → IfOk (form k) (λ (q : Question). Cited q.bridge)
 form_cited (entry k e) h = h
 form_cited (peak i r j s) h =
-    made_bind cited (marked (placed (pair_place i j)) (sized (reduct (equation_of r) (equation_of s)))) _ (λ x _.
-    made_bind cited (marked (placed (pair_place i j)) (sized (reduct (equation_of s) (equation_of r)))) _ (λ y _. h))
+    made_bind cited (marked (placed (Pair i j)) (sized (reduct (equation_of r) (equation_of s)))) _ (λ x _.
+    made_bind cited (marked (placed (Pair i j)) (sized (reduct (equation_of s) (equation_of r)))) _ (λ y _. h))
   where
     cited : Question → Type 0
     cited q = Cited q.bridge
@@ -106,15 +107,15 @@ pub record ToldOf (t : List Rule) (b : ℕ) (book : List Equation) (f : Fork) : 
   pub fork : f ≡ fork_of parting
   pub shown : Parted t parting
 
-pub told_of : (t : List Rule) (b : ℕ) (book : List Equation) (f : Fork) → length book ≤ 32 → citable t ≡ true → Ok (Forked f) ≡ outcome (ask_all t b (topics book t)) → ToldOf t b book f
+pub told_of : (t : List Rule) (b : ℕ) (book : List Equation) (f : Fork) → length book ≤ 32 → citable t ≡ true → Err (Forked f) ≡ outcome (ask_all t b (topics book t)) → ToldOf t b book f
 told_of t b book f few c e = go (ask_all t b (topics book t)) refl
   where
     all : IfOk (ask_all t b (topics book t)) (Shown t)
     all = shown_all t b (topics book t) (cite_append (entries 1 book) (peaks 1 t) (cite_entries 1 book (omega arith)) (cite_peaks 1 t c))
 
     go : (x : Result Ending (Placed StepFault)) → ask_all t b (topics book t) ≡ x → ToldOf t b book f
-    go (Ok (met left)) g = let d : Ok (Forked f) ≡ outcome (Ok (met left)) = rw g at e in let z : ◌≡◌ {A = ℕ} 0 1 = cc in absurd (omega arith)
+    go (Ok (met left)) g = let d : Err (Forked f) ≡ outcome (Ok (met left)) = rw g at e in let z : ◌≡◌ {A = ℕ} 0 1 = cc in absurd (omega arith)
     go (Ok (apart p)) g =
-        let d : Ok (Forked f) ≡ outcome (Ok (apart p)) = rw g at e in
+        let d : Err (Forked f) ≡ outcome (Ok (apart p)) = rw g at e in
         record { parting = p; ends = g; fork = cc; shown = made_at (Shown t) (ask_all t b (topics book t)) (apart p) g all }
-    go (Err x) g = let d : Ok (Forked f) ≡ outcome (Err x) = rw g at e in let z : ◌≡◌ {A = ℕ} 0 1 = cc in absurd (omega arith)
+    go (Err x) g = let d : Err (Forked f) ≡ outcome (Err x) = rw g at e in let z : ◌≡◌ {A = ℕ} 0 1 = cc in absurd (omega arith)

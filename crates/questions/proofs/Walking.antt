@@ -8,6 +8,7 @@ use Rattle.rewriting.specs.Reducing.{Way, onward, reduce}
 use Rattle.rewriting.proofs.Reducing.{Run, rests, spends, passes, moves, runs}
 use Rattle.tables.specs.Trails.{trail}
 use Rattle.tables.proofs.Strides.{stride-sized, trail-some}
+use Rattle.questions.specs.declared.placed.Place.{Place}
 use Rattle.questions.specs.Asking.{reduce_at}
 use Rattle.questions.specs.Placed.{placed}
 use Rattle.questions.proofs.Answering.{made_at, marked_ok}
@@ -29,5 +30,5 @@ walked_run (passes e f) = tt
 walked_run {t} {a = a} (moves {y = y} {r = r} {x = x} e f h) =
     walked_onward t a y r (λ n. trail-some t a (suc n) n (record { line = r.line; load = y }) refl (stride-sized t a r e y f)) x (walked_run h)
 
-pub reduce_walked : (place : ℕ) (t : List Rule) (b : ℕ) (a : Load) (w : Way) → reduce_at place t b a ≡ Ok w → Walked t a w
+pub reduce_walked : (place : Place) (t : List Rule) (b : ℕ) (a : Load) (w : Way) → reduce_at place t b a ≡ Ok w → Walked t a w
 reduce_walked place t b a w e = made_at (Walked t a) (reduce t b a) w (marked_ok (placed place) (reduce t b a) w e) (walked_run (runs t b a))

@@ -1,5 +1,5 @@
 -- What comes of asking questions in order.
-use Rattle.std.specs.Prelude.{ℕ, ◌-◌, true, false, List, [], ◌∷◌, length, Ok, Result}
+use Rattle.std.specs.Prelude.{ℕ, ◌-◌, true, false, List, [], ◌∷◌, length, Ok, Err, Result}
 use Rattle.loads.specs.declared.Load.{Load}
 use Rattle.loads.specs.Answers.{◌>>=◌, marked}
 use Rattle.loads.specs.Tests.{alike}
@@ -8,11 +8,12 @@ use Rattle.rewriting.specs.declared.reduce.Reduced.{Reduced}
 use Rattle.rewriting.specs.declared.reduce.StepFault.{StepFault}
 use Rattle.rewriting.specs.Reducing.{Way, reduce, counted}
 use Rattle.tables.specs.Trails.{trail}
+use Rattle.questions.specs.declared.placed.Place.{Place}
 use Rattle.questions.specs.declared.placed.Placed.{Placed}
 use Rattle.questions.specs.declared.question.Question.{Question}
 use Rattle.questions.specs.declared.question.Fork.{Fork}
-use Rattle.questions.specs.declared.question.Outcome.{Outcome}
-use Rattle.questions.specs.declared.question.Outcome.TheVariants.{Met, Forked}
+use Rattle.questions.specs.declared.question.Stop.{Stop}
+use Rattle.questions.specs.declared.question.Stop.TheVariants.{Forked, Step}
 use Rattle.questions.specs.Placed.{placed}
 use Rattle.questions.specs.Topics.{Topic}
 use Rattle.questions.specs.Questions.{form, turned_question}
@@ -38,7 +39,7 @@ abbrev pub ending : Parting → Ending
 ending p = elim (alike p.first.end p.second.end) [ true ↦ met p.left | false ↦ apart p ]
 
 -- a reduction at a place
-abbrev pub reduce_at : (place : ℕ) → List Rule → (budget : ℕ) → Load → Result Way (Placed StepFault)
+abbrev pub reduce_at : (place : Place) → List Rule → (budget : ℕ) → Load → Result Way (Placed StepFault)
 reduce_at place t b a = marked (placed place) (reduce t b a)
 
 -- reduce the first load, then the second with what is left of the budget
@@ -74,11 +75,11 @@ parting_of t f = record { question = f.question; first = way_of t f.question.fir
 abbrev pub turned_fork : Fork → Fork
 turned_fork f = record { question = turned_question f.question; first = f.second; second = f.first; left = f.left }
 
--- what is told of an ending
-abbrev pub outcome_of : Ending → Outcome
-outcome_of (met left) = Met left
-outcome_of (apart p) = Forked (fork_of p)
+-- what is told of an ending: what is left of the budget, or the question that ended in two loads
+abbrev pub outcome_of : Ending → Result ℕ Stop
+outcome_of (met left) = Ok left
+outcome_of (apart p) = Err (Forked (fork_of p))
 
 -- what is told of an answer
-abbrev pub outcome : {E : Type 0} → Result Ending E → Result Outcome E
-outcome x = x >>= λ o. Ok (outcome_of o)
+abbrev pub outcome : Result Ending (Placed StepFault) → Result ℕ Stop
+outcome x = marked Step x >>= outcome_of

@@ -1,10 +1,11 @@
 -- The question that each topic leads to.
-use Rattle.std.specs.Prelude.{ℕ, ◌+◌, ◌*◌, ◌≤◌, Ok, Result}
+use Rattle.std.specs.Prelude.{◌≤◌, Ok, Result}
 use Rattle.loads.specs.Answers.{◌>>=◌, marked}
 use Rattle.rewriting.specs.declared.reduce.StepFault.{StepFault}
 use Rattle.rewriting.specs.Reducing.{sized}
 use Rattle.rewriting.specs.Swaps.{equation_of}
 use Rattle.rewriting.specs.Settled.{reduct}
+use Rattle.questions.specs.declared.placed.Place.TheVariants.{Entry, Pair}
 use Rattle.questions.specs.declared.placed.Placed.{Placed}
 use Rattle.questions.specs.declared.question.Bridge.{Bridge}
 use Rattle.questions.specs.declared.question.Bridge.TheVariants.{Forward, Backward, Peak}
@@ -12,17 +13,13 @@ use Rattle.questions.specs.declared.question.Question.{Question}
 use Rattle.questions.specs.Placed.{placed}
 use Rattle.questions.specs.Topics.{Topic, entry, peak}
 
--- the place code of the pair at the places i and j
-abbrev pub pair_place : ℕ → ℕ → ℕ
-pair_place i j = 256 * i + j
-
 -- the two loads of an equation are its sides; those of a pair are what each rule makes of the peak, and both are formed before either is reduced
 abbrev pub form : Topic → Result Question (Placed StepFault)
-form (entry k e) = Ok (record { place = k; first = e.left; second = e.right; bridge = Forward k })
+form (entry k e) = Ok (record { place = Entry k; first = e.left; second = e.right; bridge = Forward k })
 form (peak i r j s) =
-    marked (placed (pair_place i j)) (sized (reduct (equation_of r) (equation_of s))) >>= λ x.
-    marked (placed (pair_place i j)) (sized (reduct (equation_of s) (equation_of r))) >>= λ y.
-    Ok (record { place = pair_place i j; first = x; second = y; bridge = Peak r.line s.line })
+    marked (placed (Pair i j)) (sized (reduct (equation_of r) (equation_of s))) >>= λ x.
+    marked (placed (Pair i j)) (sized (reduct (equation_of s) (equation_of r))) >>= λ y.
+    Ok (record { place = Pair i j; first = x; second = y; bridge = Peak r.line s.line })
 
 -- from the second load to the first
 abbrev pub turned_bridge : Bridge → Bridge

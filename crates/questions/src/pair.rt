@@ -6,7 +6,7 @@ ghost use Rattle.rewriting.specs.Settled.{reduct};
 ghost use Rattle.questions.specs.Topics.{peak};
 ghost use Rattle.questions.specs.Questions.{form};
 
-use crate::placed::{AtPlace, Placed};
+use crate::placed::{AtPlace, Place, Placed};
 use crate::question::{Bridge, Question};
 use loads::Load;
 use rewriting::reduce::StepFault;
@@ -18,10 +18,10 @@ fn reduct(rule: &Rule, other: &Rule) -> Result<Load, StepFault>
     ensures { result ≡ sized (reduct (equation_of rule.now) (equation_of other.now)) }
 {
     let shared = rule.left.shared(&other.left);
-    match other.left.exchange(&shared, &rule.right) {
-        Ok(load) => Ok(load),
-        Err(_) => Err(StepFault::Overflow),
-    }
+    other
+        .left
+        .exchange(&shared, &rule.right)
+        .map_err(|_| StepFault::Overflow)
 }
 
 // The question that the rules at the places i and j ask, counted from 1. Both loads are formed before either is reduced.
@@ -34,7 +34,7 @@ pub(crate) fn pair(
     requires { (i ≤ 128) × (j ≤ 128) }
     ensures { result ≡ form (peak i rule.now j other.now) }
 {
-    let place = (256 * i + j) as u16;
+    let place = Place::Pair(i as u8, j as u8);
     let first = reduct(rule, other).at(place)?;
     let second = reduct(other, rule).at(place)?;
     Ok(Question {

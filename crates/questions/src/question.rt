@@ -2,9 +2,11 @@
 ghost use Rattle.std.specs.Prelude.{◌≡◌};
 ghost use Rattle.questions.specs.Questions.{turned_bridge};
 ghost use Rattle.questions.specs.Asking.{turned_fork};
+ghost use Rattle.questions.specs.declared.question.Stop.TheVariants.{Step};
 
+use crate::placed::{Place, Placed};
 use loads::Load;
-use rewriting::reduce::Reduced;
+use rewriting::reduce::{Reduced, StepFault};
 
 // What leads from the first load of a question to the second: a line forward, a line backward, or the peak of two rules, of whose lines the first
 // is cited backward and the second forward.
@@ -15,10 +17,10 @@ pub enum Bridge {
     Peak(u16, u16),
 }
 
-// Two loads of which a round asks whether they end in one, and the place code.
+// Two loads of which a round asks whether they end in one, and the place at which it is asked.
 #[derive(Clone, Copy)]
 pub struct Question {
-    pub place: u16,
+    pub place: Place,
     pub first: Load,
     pub second: Load,
     pub bridge: Bridge,
@@ -33,11 +35,19 @@ pub struct Fork {
     pub left: u32,
 }
 
-// What came of a row of questions: all met, with so much of the budget left, or the first that did not.
+// What ends a row of questions before its last: the first question that ends in two loads, or a step that cannot be made.
 #[derive(Clone, Copy)]
-pub enum Outcome {
-    Met(u32),
+pub enum Stop {
     Forked(Fork),
+    Step(Placed<StepFault>),
+}
+
+impl From<Placed<StepFault>> for Stop {
+    ghost from_gives = { λ e r. r ≡ Step e };
+
+    fn from(fault: Placed<StepFault>) -> Stop {
+        Stop::Step(fault)
+    }
 }
 
 impl Bridge {

@@ -5,6 +5,7 @@ use Rattle.worksheet.specs.declared.fault.SwapFault.TheVariants.{NoLine, Lacks, 
 use Rattle.rewriting.specs.declared.reduce.StepFault.{StepFault}
 use Rattle.rewriting.specs.declared.reduce.StepFault.TheVariants.{Spent}
 use Rattle.rewriting.specs.declared.reduce.StepFault.TheVariants as step
+use Rattle.questions.specs.Placed.{code}
 use Rattle.completion.specs.declared.fault.RoundFault.{RoundFault}
 use Rattle.completion.specs.declared.fault.RoundFault.TheVariants as round
 use Rattle.refusals.specs.declared.Part.{Part}
@@ -35,9 +36,9 @@ told refusal.NotSettled = plain 2 part.Register 0
 told refusal.EmptySide = plain 3 part.Enter 0
 told refusal.BookFull = plain 4 part.Enter 0
 told refusal.Capacity = plain 5 part.Settle 0
-told (refusal.Step f) = told_step f.fault f.place
-told (refusal.Full k) = plain 8 part.Adding k
-told (refusal.NoRoom k) = plain 9 part.Adding k
+told (refusal.Step f) = told_step f.fault (code f.place)
+told (refusal.Full k) = plain 8 part.Adding (code k)
+told (refusal.NoRoom k) = plain 9 part.Adding (code k)
 told refusal.ShortChain = plain 10 part.Match 0
 told (refusal.Replay f) = told_swap f.fault f.step
 

@@ -5,7 +5,7 @@ mod faults;
 mod telling;
 mod words;
 
-use questions::placed::Placed;
+use questions::placed::{Place, Placed};
 use rewriting::reduce::StepFault;
 use worksheet::fault::ReplayFault;
 
@@ -37,9 +37,9 @@ pub enum Refusal {
     // a step is not made, or a pair cannot be formed
     Step(Placed<StepFault>),
     // the table is at its capacity
-    Full(u16),
+    Full(Place),
     // lines or chain numbers would pass their limit
-    NoRoom(u16),
+    NoRoom(Place),
     // the loads are equal, and the chain is too short
     ShortChain,
     // a chain cannot be followed

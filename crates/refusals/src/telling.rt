@@ -1,9 +1,10 @@
 // The number, the part and the place of each refusal.
 ghost use Rattle.std.specs.Prelude.{◌≡◌};
+ghost use Rattle.questions.specs.Placed.{code};
 ghost use Rattle.refusals.specs.Refusals.{plain, told, told_step, told_swap};
 
 use crate::{Part, Refusal, Told};
-use questions::placed::Placed;
+use questions::placed::{Place, Placed};
 use rewriting::reduce::StepFault;
 use worksheet::fault::{ReplayFault, SwapFault};
 
@@ -19,12 +20,19 @@ fn plain(number: u8, part: Part, place: usize) -> Told
     }
 }
 
+// A place as the number by which it is told.
+fn code(place: Place) -> usize
+    ensures { result ≡ code place }
+{
+    usize::from(u16::from(place))
+}
+
 // A step that is not made, or a pair that cannot be formed.
 impl From<Placed<StepFault>> for Told {
-    ghost from_gives = { λ e r. r ≡ told_step e.fault e.place };
+    ghost from_gives = { λ e r. r ≡ told_step e.fault (code e.place) };
 
     fn from(fault: Placed<StepFault>) -> Told {
-        let place = usize::from(fault.place);
+        let place = code(fault.place);
         match fault.fault {
             StepFault::Spent => plain(6, Part::Step, place),
             StepFault::Overflow => plain(7, Part::Step, place),
@@ -57,8 +65,8 @@ impl From<Refusal> for Told {
             Refusal::BookFull => plain(4, Part::Enter, 0),
             Refusal::Capacity => plain(5, Part::Settle, 0),
             Refusal::Step(fault) => Told::from(fault),
-            Refusal::Full(place) => plain(8, Part::Adding, usize::from(place)),
-            Refusal::NoRoom(place) => plain(9, Part::Adding, usize::from(place)),
+            Refusal::Full(place) => plain(8, Part::Adding, code(place)),
+            Refusal::NoRoom(place) => plain(9, Part::Adding, code(place)),
             Refusal::ShortChain => plain(10, Part::Match, 0),
             Refusal::Replay(fault) => Told::from(fault),
         }

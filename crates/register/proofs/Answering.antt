@@ -9,8 +9,9 @@ use Rattle.worksheet.specs.declared.rule.Rule.{Rule}
 use Rattle.rewriting.specs.declared.reduce.Reduced.{Reduced}
 use Rattle.rewriting.specs.declared.reduce.StepFault.{StepFault}
 use Rattle.rewriting.specs.Reducing.{Way, reduce, counted, told}
+use Rattle.questions.specs.declared.placed.Place.{Place}
+use Rattle.questions.specs.declared.placed.Place.TheVariants.{Argument}
 use Rattle.questions.specs.Placed.{placed}
-use Rattle.tables.specs.Rows.{equations_of}
 use Rattle.completion.specs.States.{State, held}
 use Rattle.soundness.proofs.Answering.{err_not_ok, ok_same, goes, passes, marks, unmarked}
 use Rattle.refusals.specs.declared.Refusal.{Refusal}
@@ -26,11 +27,11 @@ use Rattle.register.specs.View.{view, sheet_if}
 use Rattle.register.proofs.Judging.{settled_with, match_guaranteed}
 
 -- what a settled register shows
-pub view_settled : (g : Register) → g.settled ≡ true → view g ≡ settled_with (equations_of g.book) (held g.workings)
+pub view_settled : (g : Register) → g.settled ≡ true → view g ≡ settled_with g.book (held g.workings)
 view_settled g e = rw e refl
 
 -- what it guarantees
-pub guarantee : (g : Register) → g.settled ≡ true → ∥ Guaranteed (equations_of g.book) (held g.workings) ∥₁
+pub guarantee : (g : Register) → g.settled ≡ true → ∥ Guaranteed g.book (held g.workings) ∥₁
 guarantee g e = ∥∥₁_map g.sound (λ k. k e)
 
 -- the way of a reduction that the code answered
@@ -47,7 +48,7 @@ way_of t b a r e = go (reduce t b a) refl e
     go (Err f) d e = absurd (err_not_ok (sym e))
 
 -- the same, of a reduction in a row that has the table's rules, whose refusal gained a place
-pub placed_way : (t u : List Rule) (b : ℕ) (a : Load) (k : ℕ) (r : Reduced) (x : Result Reduced StepFault) → u ≡ t → x ≡ told (reduce u b a) → Ok r ≡ marked (placed k) x → WayOf t b a r
+pub placed_way : (t u : List Rule) (b : ℕ) (a : Load) (k : Place) (r : Reduced) (x : Result Reduced StepFault) → u ≡ t → x ≡ told (reduce u b a) → Ok r ≡ marked (placed k) x → WayOf t b a r
 placed_way t u b a k r x same is e = way_of t b a r (sym (unmarked (placed k) x r (sym e)) ∙ is ∙ ap (λ v. told (reduce v b a)) same)
 
 module _ (c : Contents) (s : State) (settled : c.sheet ≡ Some s) where
@@ -75,8 +76,8 @@ module _ (t : List Rule) (a b : Load) (room budget : ℕ) (one two : Reduced) (p
 
   judged : (v : Result Verdict Refusal) → verdict room p.way q.way ≡ v → match t a b room budget ≡ v
   judged v e =
-      goes _ (marks Step (marks (placed 1) p.answered))
-      (goes _ (marks Step (marks (placed 2) (ap (λ n. reduce t (budget - n) b) steps_one ∙ q.answered))) e)
+      goes _ (marks Step (marks (placed (Argument 1)) p.answered))
+      (goes _ (marks Step (marks (placed (Argument 2)) (ap (λ n. reduce t (budget - n) b) steps_one ∙ q.answered))) e)
 
   -- the ends differ
   pub differs : alike one.end two.end ≡ false → match t a b room budget ≡ Ok (different (one.steps + two.steps))
@@ -99,5 +100,5 @@ well_matched g on a b room budget v e =
     let s = held g.workings in
     record {
       did = match_did (view g) s (ap (λ b. sheet_if b s) on) a b room budget v e;
-      right = subst (λ (c : Contents). MatchIsRight c a b v) (sym (view_settled g on)) (match_guaranteed (equations_of g.book) s (guarantee g on) a b room budget v e);
+      right = subst (λ (c : Contents). MatchIsRight c a b v) (sym (view_settled g on)) (match_guaranteed g.book s (guarantee g on) a b room budget v e);
     }

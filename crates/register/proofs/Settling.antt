@@ -1,11 +1,11 @@
 -- What an answered or refused settle comes to.
-use Rattle.std.proofs.Common.{◌≡◌, ℕ, ◌+◌, ◌≤◌, Bool, true, false, ◌&&◌, leb, List, length, Some, None, Ok, Err, Result, sym, refl, ap, ◌∙◌, ap₂}
+use Rattle.std.proofs.Common.{◌≡◌, ℕ, ◌+◌, Bool, true, false, List, length, Some, None, Ok, Err, Result, sym, refl, ap, ◌∙◌, ap₂}
 use mathlib.Core.Logic.{∥∥₁_map}
 use Rattle.std.specs.List.{AllByRecursion as All}
-use Rattle.std.proofs.lemmas.Bool.{le-leb, and_from}
 use Rattle.orders.specs.Laws.{Relation, Admissible}
 use Rattle.worksheet.specs.declared.equation.Equation.{Equation}
 use Rattle.completion.specs.declared.fault.RoundFault.{RoundFault}
+use Rattle.completion.specs.Capacities.{in_limits}
 use Rattle.completion.specs.States.{State, answered, leaves}
 use Rattle.completion.specs.Rounds.{settle}
 use Rattle.soundness.specs.Sheets.{Small}
@@ -36,11 +36,7 @@ module _ {X S E : Type 0} (start : S) (x : Result (X × S) E) (after : S) (is : 
       go (Ok p) d = absurd (err_not_ok (e ∙ ap answered d))
       go (Err g) d = let h : ◌≡◌ {A = Result X E} (Err f) (Err g) = e ∙ ap answered d in let same : f ≡ g = cc in (d ∙ ap Err (sym same), is ∙ ap (leaves start) d)
 
--- a capacity from 1 to 128 passes its check
-pub capacity_fits : (rules capacity : ℕ) → rules ≡ capacity → 1 ≤ rules → rules ≤ 128 → (leb 1 capacity && leb capacity 128) ≡ true
-capacity_fits rules capacity e some few = rw (← e) (and_from (leb 1 rules) (leb rules 128) (le-leb 1 rules some) (le-leb rules 128 few))
-
-module _ (above : Relation) (c : Contents) (none : c.sheet ≡ None) (capacity budget : ℕ) (passes : (leb 1 capacity && leb capacity 128) ≡ true) where
+module _ (above : Relation) (c : Contents) (none : c.sheet ≡ None) (capacity budget : ℕ) (passes : in_limits capacity ≡ true) where
   -- the book is settled
   pub settle_did : (n : ℕ) (s : State) → settle above capacity c.book budget ≡ Ok (n, s)
       → Did c (Settle above capacity budget) (Counted (length s.table) (length c.book + length s.added) n) (record { book = c.book; sheet = Some s })

@@ -6,7 +6,6 @@ use Rattle.worksheet.specs.declared.equation.Equation.{Equation}
 use Rattle.worksheet.specs.declared.line.Line.{Line}
 use Rattle.worksheet.specs.Claims.{nth, claims}
 use Rattle.worksheet.specs.Derivations.{Derivation, derivations}
-use Rattle.tables.specs.Rows.{equations_of}
 use Rattle.completion.specs.States.{held, lines_of as added-lines}
 use Rattle.register.specs.declared.register.Register.{Register}
 use Rattle.register.specs.Contents.{Contents, rules_in, added_in, lines_of, claim_at, chain_at}
@@ -39,10 +38,10 @@ claims_kept [] zs = refl
 claims_kept (l ∷ ls) zs = ap (λ x. l.claim ∷ x) (claims_kept ls (drop l.length zs))
 
 -- the lines of a register are those of its rows
-pub lines-shown : (g : Register) (book : List Equation) (ls : List Line) → book ≡ equations_of g.book → ls ≡ added-lines g.workings → lines_of (view g) ≡ claims book ls
+pub lines-shown : (g : Register) (book : List Equation) (ls : List Line) → book ≡ g.book → ls ≡ added-lines g.workings → lines_of (view g) ≡ claims book ls
 lines-shown g book ls p q =
-    ap (λ (ds : List Derivation). equations_of g.book ++ map (λ (d : Derivation). d.claim) ds) (added-shown g)
-    ∙ ap (λ x. equations_of g.book ++ x) (claims_kept (added-lines g.workings) _)
+    ap (λ (ds : List Derivation). g.book ++ map (λ (d : Derivation). d.claim) ds) (added-shown g)
+    ∙ ap (λ x. g.book ++ x) (claims_kept (added-lines g.workings) _)
     ∙ (λ i. claims (sym p i) (sym q i))
 
 -- the claim with a number above 0
@@ -52,12 +51,12 @@ claim_numbered c (suc k) h = ap (nth (lines_of c)) (omega arith)
 
 module _ (g : Register) (n : ℕ) where
   -- an equation has no chain
-  pub equation-chain : n ≤ length (equations_of g.book) → chain_at (view g) n ≡ None
-  equation-chain h = cond-false (ltb (length (equations_of g.book)) n) _ None (le-ltb (length (equations_of g.book)) n h)
+  pub equation-chain : n ≤ length g.book → chain_at (view g) n ≡ None
+  equation-chain h = cond-false (ltb (length g.book) n) _ None (le-ltb (length g.book) n h)
 
   -- an added line has its own
-  pub added-chain : length (equations_of g.book) < n
-      → chain_at (view g) n ≡ option_map (λ (d : Derivation). d.chain) (nth (held g.workings).added (n - (length (equations_of g.book) + 1)))
+  pub added-chain : length g.book < n
+      → chain_at (view g) n ≡ option_map (λ (d : Derivation). d.chain) (nth (held g.workings).added (n - (length g.book + 1)))
   added-chain h =
-      cond-true (ltb (length (equations_of g.book)) n) _ None (lt-ltb (length (equations_of g.book)) n h)
-      ∙ ap (λ (ds : List Derivation). option_map (λ (d : Derivation). d.chain) (nth ds (n - (length (equations_of g.book) + 1)))) (added-shown g)
+      cond-true (ltb (length g.book) n) _ None (lt-ltb (length g.book) n h)
+      ∙ ap (λ (ds : List Derivation). option_map (λ (d : Derivation). d.chain) (nth ds (n - (length g.book + 1)))) (added-shown g)

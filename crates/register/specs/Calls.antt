@@ -1,5 +1,5 @@
 -- The calls of a register, and what each does.
-use Rattle.std.specs.Prelude.{◌≡◌, ℕ, ◌+◌, Bool, not, ◌&&◌, List, [], ◌∷◌, ◌++◌, length, ℤ, Some, None, Ok, Err, Option, Result, nat_le, nat_lt}
+use Rattle.std.specs.Prelude.{◌≡◌, ℕ, ◌+◌, Bool, not, ◌&&◌, List, [], ◌∷◌, ◌++◌, length, ℤ, Some, None, Ok, Err, Option, Result, nat_lt}
 use Rattle.loads.specs.declared.Load.{Load}
 use Rattle.loads.specs.Answers.{◌>>=◌, check, marked, wanted}
 use Rattle.loads.specs.Loads.{empty}
@@ -7,7 +7,9 @@ use Rattle.loads.specs.Tests.{alike}
 use Rattle.orders.specs.Laws.{Relation}
 use Rattle.worksheet.specs.declared.equation.Equation.{Equation}
 use Rattle.worksheet.specs.Replay.{replay, net}
+use Rattle.questions.specs.declared.placed.Place.TheVariants.{Argument}
 use Rattle.questions.specs.Asking.{reduce_at}
+use Rattle.completion.specs.Capacities.{in_limits}
 use Rattle.completion.specs.States.{State}
 use Rattle.completion.specs.Rounds.{settle}
 use Rattle.refusals.specs.declared.Refusal.{Refusal}
@@ -66,7 +68,7 @@ entering c e =
 abbrev pub settling : Contents → Relation → (capacity budget : ℕ) → Result Done Refusal
 settling c above capacity budget =
     open_only c.sheet >>= λ _.
-    check (nat_le 1 capacity && nat_le capacity 128) refusal.Capacity >>= λ _.
+    check (in_limits capacity) refusal.Capacity >>= λ _.
     marked as_refusal (settle above capacity c.book budget) >>= λ x.
     Ok (record {
       reply = Counted (length x.1.table) (length c.book + length x.1.added) x.0;
@@ -81,7 +83,7 @@ reopening c = settled_only c.sheet >>= λ _. Ok (record { reply = Reopened; cont
 abbrev pub standardizing : Contents → Load → (budget : ℕ) → Result Done Refusal
 standardizing c a budget =
     settled_only c.sheet >>= λ s.
-    marked refusal.Step (reduce_at 1 s.table budget a) >>= λ w.
+    marked refusal.Step (reduce_at (Argument 1) s.table budget a) >>= λ w.
     Ok (record { reply = Reduced w.end (length w.trail); contents = c })
 
 -- says whether two loads are equal

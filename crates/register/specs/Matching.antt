@@ -6,6 +6,7 @@ use Rattle.loads.specs.Tests.{alike}
 use Rattle.worksheet.specs.declared.rule.Rule.{Rule}
 use Rattle.rewriting.specs.Reducing.{Way}
 use Rattle.tables.specs.Trails.{forward, undo}
+use Rattle.questions.specs.declared.placed.Place.TheVariants.{Argument}
 use Rattle.questions.specs.Asking.{reduce_at}
 use Rattle.refusals.specs.declared.Refusal.{Refusal}
 use Rattle.refusals.specs.declared.Refusal.TheVariants.{Step, ShortChain}
@@ -38,6 +39,6 @@ verdict room v w =
 -- reduce the first load, then the second with what is left of the budget
 abbrev pub match : List Rule → Load → Load → (room budget : ℕ) → Result Verdict Refusal
 match t a b room budget =
-    marked Step (reduce_at 1 t budget a) >>= λ v.
-    marked Step (reduce_at 2 t (budget - length v.trail) b) >>= λ w.
+    marked Step (reduce_at (Argument 1) t budget a) >>= λ v.
+    marked Step (reduce_at (Argument 2) t (budget - length v.trail) b) >>= λ w.
     verdict room v w

@@ -1,7 +1,6 @@
 -- What a register of the code holds, as the definitions have it.
 use Rattle.std.specs.Prelude.{Bool, true, false, List, Some, None, Option}
 use Rattle.worksheet.specs.declared.equation.Equation.{Equation}
-use Rattle.tables.specs.Rows.{equations_of}
 use Rattle.completion.specs.States.{State, held}
 use Rattle.register.specs.declared.register.Register.{Register}
 use Rattle.register.specs.Contents.{Contents}
@@ -17,4 +16,4 @@ contents_of book settled s = record { book = book; sheet = sheet_if settled s }
 
 -- what the register holds
 abbrev pub view : Register → Contents
-view g = contents_of (equations_of g.book) g.settled (held g.workings)
+view g = contents_of g.book g.settled (held g.workings)

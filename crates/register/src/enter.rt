@@ -17,9 +17,6 @@ impl Register {
         if equation.left.is_empty() || equation.right.is_empty() {
             return Err(Refusal::EmptySide);
         }
-        match self.book.enter(equation) {
-            Some(number) => Ok(number),
-            None => Err(Refusal::BookFull),
-        }
+        self.book.enter(equation).ok_or(Refusal::BookFull)
     }
 }

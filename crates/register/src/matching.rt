@@ -1,6 +1,5 @@
 // Whether one load can be turned into another.
 ghost use Rattle.std.specs.Prelude.{◌≡◌, ◌≤◌, ◌++◌, length, take, drop, IfOk};
-ghost use Rattle.tables.specs.Rows.{rules_of};
 ghost use Rattle.tables.specs.Trails.{forward, undo, trail, over_front, over_back};
 ghost use Rattle.register.specs.Calls.{Match, Matched, Did, replied};
 ghost use Rattle.register.specs.Lent.{told_verdict, ChainKept};
@@ -10,7 +9,7 @@ ghost use Rattle.register.specs.View.{view};
 use crate::register::Register;
 use crate::verdict::Verdict;
 use loads::Load;
-use questions::placed::AtPlace;
+use questions::placed::{AtPlace, Place};
 use refusals::Refusal;
 use rewriting::reduce::reduce;
 use tables::table::Table;
@@ -18,7 +17,7 @@ use tables::table::Table;
 // Writes over a row the line numbers of so many steps from the first load, forward, and then those from the second load, backward.
 fn write_between(table: &Table, first: &Load, second: &Load, steps: usize, row: &mut [i16])
     requires { steps ≤ length row.old }
-    ensures { row.new ≡ over_front (forward (trail (rules_of table.now) (length (take steps row.old)) first.now)) (take steps row.old) ++ over_back (undo (forward (trail (rules_of table.now) (length (drop steps row.old)) second.now))) (drop steps row.old) }
+    ensures { row.new ≡ over_front (forward (trail table.now (length (take steps row.old)) first.now)) (take steps row.old) ++ over_back (undo (forward (trail table.now (length (drop steps row.old)) second.now))) (drop steps row.old) }
 {
     table.follow(first, &mut row[0..steps]);
     table.undo(second, &mut row[steps..]);
@@ -42,8 +41,8 @@ impl Register {
             return Err(Refusal::NotSettled);
         }
         let table = self.workings.table();
-        let one = reduce(table.rules(), first, budget).at(1)?;
-        let two = reduce(table.rules(), second, budget - one.steps).at(2)?;
+        let one = reduce(table.rules(), first, budget).at(Place::Argument(1))?;
+        let two = reduce(table.rules(), second, budget - one.steps).at(Place::Argument(2))?;
         let steps = one.steps + two.steps;
         let same = one.end == two.end;
         if !same {

@@ -1,7 +1,6 @@
 // What a register holds.
 ghost use Rattle.std.specs.Prelude.{◌≡◌, true, false, length};
 ghost use Rattle.std.specs.List.{AllByRecursion};
-ghost use Rattle.tables.specs.Rows.{equations_of};
 ghost use Rattle.completion.specs.States.{held};
 ghost use Rattle.soundness.specs.Sheets.{Small};
 ghost use Rattle.register.specs.Guarantee.{Guaranteed};
@@ -18,7 +17,7 @@ pub struct Register {
     // an open register has no rules and no added lines
     ghost bare: { settled ≡ false → (length (held workings).table ≡ 0) × (length (held workings).added ≡ 0) },
     // the counts of the book's loads go up to 65,535
-    ghost small: { ∥ AllByRecursion Small (equations_of book) ∥₁ },
+    ghost small: { ∥ AllByRecursion Small book ∥₁ },
     // what a settled register guarantees
-    ghost sound: { ∥ (settled ≡ true → Guaranteed (equations_of book) (held workings)) ∥₁ },
+    ghost sound: { ∥ (settled ≡ true → Guaranteed book (held workings)) ∥₁ },
 }

@@ -28,7 +28,7 @@ impl Register {
         if self.settled {
             return Err(Refusal::NotOpen);
         }
-        let Some(most) = Capacity::of(capacity as usize) else {
+        let Ok(most) = Capacity::try_from(capacity as usize) else {
             return Err(Refusal::Capacity);
         };
         let steps = self.workings.settle(order, &most, &self.book, budget)?;

@@ -6,7 +6,7 @@ ghost use Rattle.register.specs.View.{view};
 
 use crate::register::Register;
 use loads::Load;
-use questions::placed::AtPlace;
+use questions::placed::{AtPlace, Place};
 use refusals::Refusal;
 use rewriting::reduce::reduce;
 
@@ -20,7 +20,7 @@ impl Register {
         if !self.settled {
             return Err(Refusal::NotSettled);
         }
-        let reduced = reduce(self.workings.table().rules(), load, budget).at(1)?;
+        let reduced = reduce(self.workings.table().rules(), load, budget).at(Place::Argument(1))?;
         *load = reduced.end;
         Ok(reduced.steps)
     }

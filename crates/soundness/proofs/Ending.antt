@@ -12,13 +12,12 @@ use Rattle.questions.specs.Asking.{Parting, Ending, met, apart}
 use Rattle.completion.specs.declared.fault.RoundFault.{RoundFault}
 use Rattle.completion.specs.declared.fault.RoundFault.TheVariants.{Full, NoRoom}
 use Rattle.completion.specs.declared.found.Found.{Found}
-use Rattle.completion.specs.declared.turn.Turn.{Turn}
-use Rattle.completion.specs.declared.turn.Turn.TheVariants.{Settled, Again}
+use Rattle.std.specs.declared.ops.ControlFlow.TheVariants.{Break, Continue}
 use Rattle.completion.specs.States.{State, blank}
 use Rattle.completion.specs.Room.{roomy}
 use Rattle.completion.specs.Adding.{derived, oriented, rule_of, admit}
 use Rattle.completion.specs.Changing.{unfinished}
-use Rattle.completion.specs.Rounds.{Wish, nothing, a_line, add, change, proceed, wish, note, no_more, rounds, settle}
+use Rattle.completion.specs.Rounds.{Turn, Wish, nothing, a_line, add, change, proceed, wish, note, no_more, rounds, settle}
 use Rattle.soundness.specs.Sheets.{Small, lines}
 use Rattle.soundness.proofs.Answering.{err_not_ok, ok_same, went, unmarked}
 use Rattle.soundness.proofs.Reducing.{reduces_so}
@@ -102,16 +101,16 @@ module _ (above : Relation) (laws : Admissible above) (book : List Equation) (sm
       go g.got (wish_comes b s k g.got g.first) f.got g.then f.then (λ left u h d. rounds-end n left u h x d)
     where
       go : (w : Wish) → Comes b s w → (y : Turn × State) → note s w ≡ Ok y
-          → ◌≡◌ {A = Result (ℕ × State) RoundFault} (elim y.0 [ Settled left ↦ Ok (left, y.1) | Again left ↦ rounds above capacity book n left y.1 ]) (Ok x)
+          → ◌≡◌ {A = Result (ℕ × State) RoundFault} (elim y.0 [ Break left ↦ Ok (left, y.1) | Continue left ↦ rounds above capacity book n left y.1 ]) (Ok x)
           → ((left : ℕ) (u : State) → Kept above book u.table u.added → rounds above capacity book n left u ≡ Ok x → Ends left x) → Ends b x
       go (nothing left) c y d e ih =
           let q = ok_same d in
-          let r : ◌≡◌ {A = Result (ℕ × State) RoundFault} (Ok (left, s)) (Ok x) = subst (λ (y : Turn × State). ◌≡◌ {A = Result (ℕ × State) RoundFault} (elim y.0 [ Settled left ↦ Ok (left, y.1) | Again left ↦ rounds above capacity book n left y.1 ]) (Ok x)) (sym q) e in
+          let r : ◌≡◌ {A = Result (ℕ × State) RoundFault} (Ok (left, s)) (Ok x) = subst (λ (y : Turn × State). ◌≡◌ {A = Result (ℕ × State) RoundFault} (elim y.0 [ Break left ↦ Ok (left, y.1) | Continue left ↦ rounds above capacity book n left y.1 ]) (Ok x)) (sym q) e in
           subst (Ends b) (ok_same r) c
       go (a_line place new t left) c y d e ih =
           let f = went (check (roomy s.added (length new.chain)) (NoRoom place)) _ y d in
           let q = ok_same f.then in
-          let r : rounds above capacity book n left (record { table = t; added = s.added ++ (new ∷ []) }) ≡ Ok x = subst (λ (y : Turn × State). ◌≡◌ {A = Result (ℕ × State) RoundFault} (elim y.0 [ Settled left ↦ Ok (left, y.1) | Again left ↦ rounds above capacity book n left y.1 ]) (Ok x)) (sym q) e in
+          let r : rounds above capacity book n left (record { table = t; added = s.added ++ (new ∷ []) }) ≡ Ok x = subst (λ (y : Turn × State). ◌≡◌ {A = Result (ℕ × State) RoundFault} (elim y.0 [ Break left ↦ Ok (left, y.1) | Continue left ↦ rounds above capacity book n left y.1 ]) (Ok x)) (sym q) e in
           let h = ih left (record { table = t; added = s.added ++ (new ∷ []) }) c.0 r in
           let m = h.0 in
           (record { kept = m.kept; rights = m.rights; steps = m.steps; all = m.all; within = omega (arith, m.within, h.1, c.1) }, omega (arith, h.1, c.1))

@@ -1,5 +1,7 @@
 -- The next step, by what the search and the exchange give, and the trail that it begins.
-use Rattle.std.proofs.Common.{◌≡◌, ℕ, zero, suc, List, [], ◌∷◌, get_or, Some, None, Ok, Err, Result, sym, refl, ap, ◌∙◌}
+use Rattle.std.proofs.Common.{◌≡◌, ℕ, zero, suc, List, [], ◌∷◌, get_or, Some, None, Ok, Err, Option, Result, sym, refl, ap, ◌∙◌}
+use Rattle.std.specs.Option.{option_map}
+use Rattle.std.specs.Result.{result_ok}
 use Rattle.loads.specs.declared.Load.{Load}
 use Rattle.loads.specs.declared.exchange.ExchangeFault.{ExchangeFault}
 use Rattle.loads.specs.Exchange.{swapped, exchanged}
@@ -28,15 +30,16 @@ module _ (t : List Rule) (a : Load) where
     pub stride-sized : (y : Load) → sized (swapped a r.left r.right) ≡ Ok y → stride t a ≡ Some (record { line = r.line; load = y })
     stride-sized y e = stride_is ∙ ap (λ (x : Result Load StepFault). elim x [ Ok y ↦ Some (record { line = r.line; load = y }) | Err e ↦ None ]) e
 
-    pub stride_made : (y : Load) → Ok y ≡ exchanged a r.left r.right → stride t a ≡ Some (record { line = r.line; load = y })
-    stride_made y e = stride-sized y (exchange_made a r.left r.right (fitting-contains t a r fit) y (sym e))
-
-    -- a count is in the way
-    pub stride_refused : (f : ExchangeFault) → Err f ≡ exchanged a r.left r.right → stride t a ≡ None
-    stride_refused f e =
-        stride_is
-        ∙ ap (λ (x : Result Load StepFault). elim x [ Ok y ↦ Some (record { line = r.line; load = y }) | Err e ↦ None ])
-        (exchange_refused a r.left r.right (fitting-contains t a r fit) f (sym e))
+    -- the step by what the exchange gives; where it gives nothing a count is in the way, and no step is made
+    pub stride_next : (o : Option Load) → o ≡ result_ok (exchanged a r.left r.right) → stride t a ≡ option_map (λ (y : Load). record { line = r.line; load = y }) o
+    stride_next o e = go (exchanged a r.left r.right) refl ∙ ap (option_map (λ (y : Load). record { line = r.line; load = y })) (sym e)
+      where
+        go : (x : Result Load ExchangeFault) → exchanged a r.left r.right ≡ x → stride t a ≡ option_map (λ (y : Load). record { line = r.line; load = y }) (result_ok x)
+        go (Ok y) d = stride-sized y (exchange_made a r.left r.right (fitting-contains t a r fit) y d)
+        go (Err f) d =
+            stride_is
+            ∙ ap (λ (x : Result Load StepFault). elim x [ Ok y ↦ Some (record { line = r.line; load = y }) | Err e ↦ None ])
+            (exchange_refused a r.left r.right (fitting-contains t a r fit) f d)
 
   -- no step more
   pub trail-none : (n : ℕ) → stride t a ≡ None → trail t n a ≡ []

@@ -1,4 +1,3 @@
 pub mod Citing
-pub mod Rows
 pub mod Placing
 pub mod Trails

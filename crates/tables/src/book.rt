@@ -1,14 +1,22 @@
 // The book of a register.
-ghost use Rattle.std.specs.Prelude.{◌≤◌, vec_len, vec_capacity};
-
+use std::marker::Model;
 use worksheet::equation::Equation;
 
 // At most 32 equations, in entry order.
 #[derive(Drop)]
 pub struct Book {
     equations: Vec<Equation>,
-    ghost room: { 32 ≤ vec_capacity equations },
-    ghost few: { vec_len equations ≤ 32 },
+}
+
+impl Model for Book {
+    ghost use Rattle.std.specs.Prelude.{◌≤◌, List, vec_len, vec_capacity};
+    ghost use Rattle.worksheet.specs.declared.equation.Equation.{Equation};
+
+    ghost Value = { List Equation };
+
+    ghost view = { λ b. b.equations.items };
+
+    ghost invariant = { λ b. record { room : 32 ≤ vec_capacity b.equations; few : vec_len b.equations ≤ 32 } };
 }
 
 pub mod entering;

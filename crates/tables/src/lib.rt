@@ -2,5 +2,6 @@
 #![tactic(auto)]
 
 pub mod book;
+pub mod misfit;
 mod stride;
 pub mod table;

@@ -1,16 +1,23 @@
 // The table of a register.
-ghost use Rattle.std.specs.Prelude.{◌≡◌, ◌≤◌, true, vec_len, vec_capacity};
-ghost use Rattle.tables.specs.Citing.{citable};
-
+use std::marker::Model;
 use worksheet::rule::Rule;
 
 // At most 128 rules. Their line numbers are at most 544, so that a chain can cite them.
 #[derive(Drop)]
 pub struct Table {
     rules: Vec<Rule>,
-    ghost room: { 128 ≤ vec_capacity rules },
-    ghost few: { vec_len rules ≤ 128 },
-    ghost cited: { citable rules.items ≡ true },
+}
+
+impl Model for Table {
+    ghost use Rattle.std.specs.Prelude.{◌≡◌, ◌≤◌, true, List, vec_len, vec_capacity};
+    ghost use Rattle.worksheet.specs.declared.rule.Rule.{Rule};
+    ghost use Rattle.tables.specs.Citing.{citable};
+
+    ghost Value = { List Rule };
+
+    ghost view = { λ t. t.rules.items };
+
+    ghost invariant = { λ t. record { room : 128 ≤ vec_capacity t.rules; few : vec_len t.rules ≤ 128; cited : citable t.rules.items ≡ true } };
 }
 
 pub mod making;

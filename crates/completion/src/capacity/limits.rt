@@ -1,16 +1,17 @@
 // The limits of a capacity.
-ghost use Rattle.std.specs.Prelude.{◌≡◌, true, false, ◌&&◌, MatchOption, nat_le};
+ghost use Rattle.completion.specs.Capacities.{Limits};
 
-use crate::capacity::Capacity;
+use crate::capacity::{Capacity, NoCapacity};
 
-impl Capacity {
-    // The capacity of so many rules; none where they are 0, or more than 128.
-    pub fn of(rules: usize) -> Option<Capacity>
-        ensures { MatchOption result ((nat_le 1 rules && nat_le rules 128) ≡ false) (λ c. c.rules ≡ rules) }
-    {
+impl TryFrom<usize> for Capacity {
+    type Error = NoCapacity;
+
+    ghost try_from_gives = { Limits };
+
+    fn try_from(rules: usize) -> Result<Capacity, NoCapacity> {
         if rules == 0 || rules > 128 {
-            return None;
+            return Err(NoCapacity(rules));
         }
-        Some(Capacity { rules })
+        Ok(Capacity { rules })
     }
 }

@@ -9,10 +9,10 @@ ghost use Rattle.completion.specs.Rounds.{forked};
 use crate::capacity::Capacity;
 use crate::chaining::chain_length;
 use crate::fault::RoundFault;
-use crate::turn::Turn;
 use crate::workings::Workings;
 use orders::order::{Order, higher};
 use questions::question::Fork;
+use std::ops::ControlFlow;
 use worksheet::rule::Rule;
 
 // The fork with the higher end first.
@@ -34,7 +34,7 @@ impl Workings {
         capacity: &Capacity,
         equations: usize,
         fork: &Fork,
-    ) -> Result<Turn, RoundFault>
+    ) -> Result<ControlFlow<u32, u32>, RoundFault>
         requires few { equations ≤ 32 }
         requires counted { fork_of (parting_of (held self.old).table fork.now) ≡ fork.now }
         requires cited { Cited fork.now.question.bridge }
@@ -53,14 +53,12 @@ impl Workings {
         self.note(&fork);
         let line = (equations + self.lines.len()) as u16;
         self.table.remove(&left);
-        let _ = self.table.put(
-            order,
-            Rule {
-                left,
-                right: fork.second.end,
-                line,
-            },
-        );
-        Ok(Turn::Again(fork.left))
+        let rule = Rule {
+            left,
+            right: fork.second.end,
+            line,
+        };
+        self.table.put(order, rule).unwrap();
+        Ok(ControlFlow::Continue(fork.left))
     }
 }

@@ -12,15 +12,12 @@ impl Workings {
     // Where the chain of the line at a place, counted from 0, begins in the row of all chain numbers.
     fn chain_start(&self, place: usize) -> usize
         requires { place ≤ vec_len self.now.lines }
-        ensures is { result ≡ lengths (take place self.now.lines.items) }
-        ensures within { (l : Line) → place < vec_len self.now.lines → l ≡ slice_index_or self.now.lines.items place l → result + l.length ≤ vec_len self.now.chain }
+        ensures { result ≡ lengths (take place self.now.lines.items) }
     {
-        let mut start = 0;
-        for i in 0..place {
-            let line = self.lines[i];
-            start += line.length as usize;
-        }
-        start
+        self.lines[..place]
+            .iter()
+            .map(|line| line.length as usize)
+            .sum()
     }
 
     // The chain of the added line at a place, counted from 0, if there is one.

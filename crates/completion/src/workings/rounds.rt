@@ -1,38 +1,40 @@
 // The rounds that settle a book.
 ghost use Rattle.std.specs.Prelude.{◌≡◌};
-ghost use Rattle.tables.specs.Rows.{equations_of};
 ghost use Rattle.completion.specs.States.{blank, held, answered, leaves};
 ghost use Rattle.completion.specs.Rounds.{round, settle};
 
 use crate::capacity::Capacity;
 use crate::fault::RoundFault;
-use crate::turn::Turn;
 use crate::workings::Workings;
 use crate::workings::changing::unfinished;
 use orders::order::Order;
 use questions::asking::ask_all;
-use questions::question::Outcome;
+use questions::question::Stop;
+use std::ops::ControlFlow;
 use tables::book::Book;
 
 impl Workings {
     // One round: at the first equation or pair that ends in two loads, a rule is added; otherwise the first right load that some rule fits is
-    // changed; otherwise the book is settled. A refused round leaves everything as it was.
+    // changed; otherwise the book is settled. It breaks off where the book is settled, and goes on where a line was added; each with what is left of
+    // the budget. A refused round leaves everything as it was.
     pub fn round<O: Order>(
         &mut self,
         order: &O,
         capacity: &Capacity,
         book: &Book,
         budget: u32,
-    ) -> Result<Turn, RoundFault>
-        ensures value { result ≡ answered (round (O.above order.now) capacity.now.rules (equations_of book.now) budget (held self.old)) }
-        ensures after { held self.new ≡ leaves (held self.old) (round (O.above order.now) capacity.now.rules (equations_of book.now) budget (held self.old)) }
+    ) -> Result<ControlFlow<u32, u32>, RoundFault>
+        ensures value { result ≡ answered (round (O.above order.now) capacity.now.rules book.now budget (held self.old)) }
+        ensures after { held self.new ≡ leaves (held self.old) (round (O.above order.now) capacity.now.rules book.now budget (held self.old)) }
     {
-        match ask_all(&self.table, book, budget)? {
-            Outcome::Forked(fork) => self.add(order, capacity, book.equations().len(), &fork),
-            Outcome::Met(left) => match unfinished(self.table.rules()) {
+        let rules = self.table.rules();
+        match ask_all(&self.table, book, budget) {
+            Ok(left) => match unfinished(rules) {
                 Some(found) => self.change(book.equations().len(), &found, left),
-                None => Ok(Turn::Settled(left)),
+                None => Ok(ControlFlow::Break(left)),
             },
+            Err(Stop::Forked(fork)) => self.add(order, capacity, book.equations().len(), &fork),
+            Err(Stop::Step(fault)) => Err(RoundFault::Step(fault)),
         }
     }
 
@@ -45,17 +47,15 @@ impl Workings {
         book: &Book,
         budget: u32,
     ) -> Result<u32, RoundFault>
-        ensures value { result ≡ answered (settle (O.above order.now) capacity.now.rules (equations_of book.now) budget) }
-        ensures after { held self.new ≡ leaves blank (settle (O.above order.now) capacity.now.rules (equations_of book.now) budget) }
+        ensures value { result ≡ answered (settle (O.above order.now) capacity.now.rules book.now budget) }
+        ensures after { held self.new ≡ leaves blank (settle (O.above order.now) capacity.now.rules book.now budget) }
     {
         self.clear();
         let mut left = budget;
         loop {
             match self.round(order, capacity, book, left) {
-                Ok(turn) => match turn {
-                    Turn::Again(rest) => left = rest,
-                    Turn::Settled(rest) => return Ok(budget.saturating_sub(rest)),
-                },
+                Ok(ControlFlow::Continue(rest)) => left = rest,
+                Ok(ControlFlow::Break(rest)) => return Ok(budget.saturating_sub(rest)),
                 Err(fault) => {
                     self.clear();
                     return Err(fault);

@@ -1,6 +1,6 @@
 // Making, reading and emptying a table.
-ghost use Rattle.std.specs.Prelude.{◌≡◌, ◌≤◌, [], length, IfOk};
-ghost use Rattle.tables.specs.Rows.{rules_of};
+ghost use Rattle.std.specs.Prelude.{◌≡◌, ◌≤◌, true, [], length, IfOk};
+ghost use Rattle.tables.specs.Citing.{citable};
 
 use crate::table::Table;
 use std::alloc::{AllocError, Global};
@@ -9,7 +9,7 @@ use worksheet::rule::Rule;
 impl Table {
     // An empty table. It reserves the room for 128 rules, so that no other call wants memory.
     pub fn new(heap: Global) -> Result<Table, AllocError>
-        ensures { IfOk result (λ t. rules_of t ≡ []) }
+        ensures { IfOk result (λ t. t ≡ []) }
     {
         Ok(Table {
             rules: Vec::with_capacity(heap, 128)?,
@@ -18,15 +18,16 @@ impl Table {
 
     // The rules by place.
     pub fn rules(&self) -> &[Rule]
-        ensures value { result.now ≡ rules_of self.now }
+        ensures value { result.now ≡ self.now }
         ensures bound { length result.now ≤ 128 }
+        ensures cited { citable result.now ≡ true }
     {
         self.rules.as_slice()
     }
 
     // Drops the rules.
     pub fn clear(&mut self)
-        ensures { rules_of self.new ≡ [] }
+        ensures { self.new ≡ [] }
     {
         self.rules.clear();
     }

@@ -1,42 +1,23 @@
 // Removing rules from a table, and putting a rule at its place.
-ghost use Rattle.std.specs.Prelude.{◌≡◌, ◌+◌, ◌<◌, ◌≤◌, ◌&&◌, length, if◌then◌else◌, vec_len, vec_capacity, nat_le, nat_lt, slice_set};
+ghost use Rattle.std.specs.Prelude.{◌≡◌, ◌+◌, ◌<◌, ◌≤◌, ◌&&◌, length, is_ok, if◌then◌else◌, vec_len, vec_capacity, nat_le, nat_lt, slice_set};
 ghost use Rattle.std.specs.List.{insert};
-ghost use Rattle.tables.specs.Rows.{rules_of};
-ghost use Rattle.tables.specs.Placing.{without, enter};
+ghost use Rattle.tables.specs.Placing.{without, enter, put_fits, replace_fits};
 
+use crate::misfit::Misfit;
 use crate::table::Table;
 use loads::Load;
 use orders::order::{Order, higher};
 use worksheet::rule::Rule;
-
-// Keeps the rules whose left load does not contain the load, in their order.
-fn keep_without(rules: &mut Vec<Rule>, load: &Load)
-    ensures items { rules.new.items ≡ without load.now rules.old.items }
-    ensures capacity { vec_capacity rules.new ≡ vec_capacity rules.old }
-{
-    let mut end = 0;
-    for i in 0..rules.len() {
-        let rule = rules[i];
-        if !rule.left.contains(load) {
-            rules[end] = rule;
-            end += 1;
-        }
-    }
-    rules.truncate(end);
-}
 
 // The place of a rule among rules whose left loads rise.
 fn place_of<O: Order>(order: &O, rules: &[Rule], rule: &Rule) -> usize
     ensures within { result ≤ length rules.now }
     ensures place { insert rules.now result rule.now ≡ enter (O.above order.now) rule.now rules.now }
 {
-    for i in 0..rules.len() {
-        let other = rules[i];
-        if !higher(order, &rule.left, &other.left) {
-            return i;
-        }
-    }
-    rules.len()
+    rules
+        .iter()
+        .position(|other| !higher(order, &rule.left, &other.left))
+        .unwrap_or(rules.len())
 }
 
 // Puts a rule at its place.
@@ -47,51 +28,54 @@ fn put_in<O: Order>(order: &O, rules: &mut Vec<Rule>, rule: Rule)
     ensures capacity { vec_capacity rules.old ≤ vec_capacity rules.new }
 {
     let place = place_of(order, rules, &rule);
-    let _ = rules.insert(place, rule);
+    rules.insert(place, rule).unwrap();
 }
 
 impl Table {
     // How many rules have a left load that does not contain the load.
     pub fn kept(&self, load: &Load) -> usize
-        ensures { result ≡ length (without load.now (rules_of self.now)) }
+        ensures { result ≡ length (without load.now self.now) }
     {
-        let mut count = 0;
-        for rule in self.rules.as_slice() {
-            if !rule.left.contains(load) {
-                count += 1;
-            }
-        }
-        count
+        self.rules
+            .iter()
+            .filter(|rule| !rule.left.contains(load))
+            .count()
     }
 
     // Removes the rules whose left load contains the load.
     pub fn remove(&mut self, load: &Load)
-        ensures { rules_of self.new ≡ without load.now (rules_of self.old) }
+        ensures { self.new ≡ without load.now self.old }
     {
-        keep_without(&mut self.rules, load);
+        self.rules.retain(|rule| !rule.left.contains(load));
     }
 
-    // Puts a rule at its place, so that left loads rise. Not where 128 rules are held, or where the rule's line is above 544.
-    pub fn put<O: Order>(&mut self, order: &O, rule: Rule) -> bool
-        ensures value { result ≡ (nat_lt (length (rules_of self.old)) 128 && nat_le rule.line 544) }
-        ensures after { rules_of self.new ≡ (if result then enter (O.above order.now) rule (rules_of self.old) else rules_of self.old) }
+    // Puts a rule at its place, so that left loads rise.
+    pub fn put<O: Order>(&mut self, order: &O, rule: Rule) -> Result<(), Misfit>
+        ensures value { result ≡ put_fits rule self.old }
+        ensures after { self.new ≡ (if is_ok result then enter (O.above order.now) rule self.old else self.old) }
     {
-        if self.rules.len() >= 128 || rule.line > 544 {
-            return false;
+        if self.rules.len() >= 128 {
+            return Err(Misfit::Full);
+        }
+        if rule.line > 544 {
+            return Err(Misfit::LineTooHigh);
         }
         put_in(order, &mut self.rules, rule);
-        true
+        Ok(())
     }
 
-    // Puts a rule in the place of another, counted from 0. Not where the table ends before, or where the rule's line is above 544.
-    pub fn replace(&mut self, place: usize, rule: Rule) -> bool
-        ensures value { result ≡ (nat_lt place (length (rules_of self.old)) && nat_le rule.line 544) }
-        ensures after { rules_of self.new ≡ (if result then slice_set (rules_of self.old) place rule else rules_of self.old) }
+    // Puts a rule in the place of another, counted from 0.
+    pub fn replace(&mut self, place: usize, rule: Rule) -> Result<(), Misfit>
+        ensures value { result ≡ replace_fits place rule self.old }
+        ensures after { self.new ≡ (if is_ok result then slice_set self.old place rule else self.old) }
     {
-        if place >= self.rules.len() || rule.line > 544 {
-            return false;
+        if place >= self.rules.len() {
+            return Err(Misfit::NoPlace);
+        }
+        if rule.line > 544 {
+            return Err(Misfit::LineTooHigh);
         }
         self.rules[place] = rule;
-        true
+        Ok(())
     }
 }

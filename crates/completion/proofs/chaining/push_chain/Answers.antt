@@ -1,7 +1,6 @@
 use Rattle.std.proofs.Common.{◌≡◌, ◌+◌, ◌-◌, true, ◌++◌, length, take, drop, replicate, pos, is_ok, vec_items, vec_len, sym, ap, ◌∙◌, arith, length-append, length-drop, length-take}
 use Rattle.std.proofs.lemmas.List.{with_items_is}
 use Rattle.std.proofs.lemmas.Bool.{cond-true}
-use Rattle.tables.specs.Rows.{rules_of}
 use Rattle.completion.proofs.Rows.{row_pushed}
 use Rattle.completion.proofs.Rooms.{derived-length}
 use Rattle.completion.proofs.chaining.push_chain.Goals as goal
@@ -29,7 +28,7 @@ returns c =
     let size : vec_len c.resize.new.self ≡ m + n = c.resize.ensures.len ∙ cond-true (is_ok c.resize.result) _ _ made in
     let grown : row ≡ take (m + n) old ++ replicate (m + n - m) (pos 0) =
     c.as_mut_slice.ensures.value ∙ c.resize.ensures.items ∙ cond-true (is_ok c.resize.result) _ _ made ∙ ap (λ k. take (m + n) old ++ replicate (m + n - k) (pos 0)) (sym c.len-start.ensures) in
-    let long : length out ≡ n = ap length c.write_chain.ensures ∙ derived-length (rules_of c.args.table.now) c.args.fork.now c.requires.counted ∙ sym c.chain_length.ensures in
+    let long : length out ≡ n = ap length c.write_chain.ensures ∙ derived-length c.args.table.now c.args.fork.now c.requires.counted ∙ sym c.chain_length.ensures in
     let pushed = row_pushed old row out (pos 0) m n (omega arith) grown long in
     let whole = ap length pushed ∙ length-append old out in
     record {

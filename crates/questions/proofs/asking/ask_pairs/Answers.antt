@@ -1,24 +1,23 @@
-use Rattle.std.proofs.Common.{Ok, sym, ap, ◌∙◌, arith}
+use Rattle.std.proofs.Common.{◌+◌, ◌-◌, length, drop, sym, ap, ◌∙◌, arith, length-drop}
+use Rattle.std.proofs.lemmas.List.{take_all}
 use Rattle.std.proofs.lemmas.Result.{err_from_is_err_and}
-use Rattle.questions.proofs.Turns.{onward, peaks_next, peaks-end}
+use Rattle.questions.proofs.Turns.{onward, peaks_next}
 use Rattle.questions.proofs.asking.ask_pairs.Goals as goal
 
--- this turn's question, then the rest
-pub returns-in_err-rest : goal.returns-in_err-rest
-returns-in_err-rest c =
+pub returns-in_err-left : goal.returns-in_err-left
+returns-in_err-left c =
     let p = err_from_is_err_and c.from_residual.result c.from_residual.ensures.1 in
-    let next = peaks_next c.args.rules.now c.loop-i.left c.loop-i.i c.index-rules-i.result (omega arith) c.index-rules-i.is in
-    rw (p.1, p.2) (sym (c.loop-i.invariant ∙ next ∙ ap (onward _) (sym c.in_err-rest.ensures)))
+    let t = c.args.rules.now in
+    let i = c.loop-i.i in
+    let after = take_all (length t - (i + 1)) (drop (i + 1) t) (omega (arith, length-drop (i + 1) t)) in
+    let next = peaks_next t c.loop-i.left i c.index-rules-i.result _ (omega arith) c.index-rules-i.is after in
+    rw (p.1, p.2) (sym (c.loop-i.invariant ∙ next ∙ ap (onward _) (sym c.in_err-left.ensures)))
 
-pub returns-in-Forked : goal.returns-in-Forked
-returns-in-Forked c =
-    let next = peaks_next c.args.rules.now c.loop-i.left c.loop-i.i c.index-rules-i.result (omega arith) c.index-rules-i.is in
-    sym (c.loop-i.invariant ∙ next ∙ ap (onward _) (sym (ap Ok (sym c.in-Forked.is) ∙ c.in_ok-rest.ensures)))
-
+-- this turn's row, then the rest
 pub loop-i-preserved : goal.loop-i-preserved
 loop-i-preserved c =
-    let next = peaks_next c.args.rules.now c.loop-i.left c.loop-i.i c.index-rules-i.result (omega arith) c.index-rules-i.is in
-    c.loop-i.invariant ∙ next ∙ ap (onward _) (sym (ap Ok (sym c.in-Met.is) ∙ c.in_ok-rest.ensures))
-
-pub returns : goal.returns
-returns c = sym (c.loop-i.invariant ∙ peaks-end c.args.rules.now c.loop-i.left c.loop-i.i (omega arith))
+    let t = c.args.rules.now in
+    let i = c.loop-i.i in
+    let after = take_all (length t - (i + 1)) (drop (i + 1) t) (omega (arith, length-drop (i + 1) t)) in
+    let next = peaks_next t c.loop-i.left i c.index-rules-i.result _ (omega arith) c.index-rules-i.is after in
+    c.loop-i.invariant ∙ next ∙ ap (onward _) (sym c.in_ok-left.ensures)

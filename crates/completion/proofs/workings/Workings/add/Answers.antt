@@ -1,6 +1,5 @@
-use Rattle.std.proofs.Common.{◌≡◌, ◌+◌, ◌<◌, length, sym, refl, ap, ◌∙◌, arith}
+use Rattle.std.proofs.Common.{◌≡◌, ◌+◌, ◌<◌, length, is_ok, sym, refl, ap, ◌∙◌, arith}
 use Rattle.std.proofs.lemmas.List.{length_push}
-use Rattle.tables.specs.Rows.{rules_of}
 use Rattle.tables.specs.Placing.{without}
 use Rattle.questions.specs.Asking.{parting_of}
 use Rattle.completion.specs.declared.fault.RoundFault.TheVariants.{Full, NoRoom}
@@ -59,7 +58,7 @@ returns g c =
       value = answered_value s _ _ _ added;
       after =
           answered-leaves s _ _ _ _ added
-          (fork_left above c.args.capacity.now.rules c.args.equations f h s c.oriented-fork.ensures fewer (rules_of c.remove.new.self) (rules_of c.put.new.self) _ c.put.result (held w).added
-          (omega arith) (omega (arith, added-length w)) (c.remove.ensures ∙ ap (λ t. without h.first.end (rules_of t)) c.note.ensures.table) c.put.ensures.value c.put.ensures.after c.note.ensures.added
+          (fork_left above c.args.capacity.now.rules c.args.equations f h s c.oriented-fork.ensures fewer c.remove.new.self c.put.new.self _ (is_ok c.put.result) (held w).added
+          (c.remove.ensures ∙ ap (λ t. without h.first.end t) c.note.ensures.table) (ap is_ok c.unwrap.ensures) c.put.ensures.after c.note.ensures.added
           (omega (arith, added-length w)));
     }

@@ -1,6 +1,6 @@
-use Rattle.std.proofs.Common.{◌≡◌, ◌+◌, length, sym, refl, ap, ◌∙◌, subst, arith}
+use Rattle.std.proofs.Common.{◌≡◌, ◌+◌, length, is_ok, sym, refl, ap, ◌∙◌, subst, arith}
 use Rattle.std.proofs.lemmas.List.{length_push}
-use Rattle.tables.specs.Rows.{rules_of}
+use Rattle.tables.specs.Citing.{citable}
 use Rattle.tables.proofs.Citing.{citable-at}
 use Rattle.questions.specs.declared.question.Fork.{Fork}
 use Rattle.questions.specs.Questions.{Cited}
@@ -20,7 +20,7 @@ returns-then-not-has_room c =
     let f = c.args.found.now in
     let x = c.in_ok-reduced.reduced in
     let h = c.renewal-fork.result in
-    let is = told_at (right_place f.place) s.table c.rules.result.now c.args.budget f.rule.right x c.reduce.result c.in_ok-reduced.ensures c.reduce.ensures.is c.rules.ensures.value in
+    let is = told_at (right_place f.place) s.table c.rules-rules.result.now c.args.budget f.rule.right x c.reduce.result c.in_ok-reduced.ensures c.reduce.ensures.is c.rules-rules.ensures.value in
     let counted = renewal-counted c.args.equations c.args.budget f s x h is c.renewal-fork.ensures in
     let none = derived-room s.added s.table h c.chain_length.result counted c.chain_length.ensures ∙ sym c.if-not-has_room.ensures in
     let out = change_no_room c.args.equations c.args.budget f s x h is c.renewal-fork.ensures none in
@@ -32,11 +32,11 @@ note-requires c =
     let f = c.args.found.now in
     let x = c.in_ok-reduced.reduced in
     let h = c.renewal-fork.result in
-    let is = told_at (right_place f.place) s.table c.rules.result.now c.args.budget f.rule.right x c.reduce.result c.in_ok-reduced.ensures c.reduce.ensures.is c.rules.ensures.value in
+    let is = told_at (right_place f.place) s.table c.rules-rules.result.now c.args.budget f.rule.right x c.reduce.result c.in_ok-reduced.ensures c.reduce.ensures.is c.rules-rules.ensures.value in
     let counted = renewal-counted c.args.equations c.args.budget f s x h is c.renewal-fork.ensures in
     record {
       counted = counted;
-      cited = subst (λ (k : Fork). Cited k.question.bridge) (sym c.renewal-fork.ensures) (citable-at s.table f.place f.rule c.requires.within c.requires.stands c.args.self.now.table.cited);
+      cited = subst (λ (k : Fork). Cited k.question.bridge) (sym c.renewal-fork.ensures) (citable-at s.table f.place f.rule c.requires.within c.requires.stands (ap citable (sym c.rules-rules.ensures.value) ∙ c.rules-rules.ensures.cited));
       room = derived-room s.added s.table h c.chain_length.result counted c.chain_length.ensures ∙ sym c.if-not-has_room.ensures;
     }
 
@@ -47,7 +47,7 @@ returns c =
     let x = c.in_ok-reduced.reduced in
     let h = c.renewal-fork.result in
     let w = c.note.new.self in
-    let is = told_at (right_place f.place) s.table c.rules.result.now c.args.budget f.rule.right x c.reduce.result c.in_ok-reduced.ensures c.reduce.ensures.is c.rules.ensures.value in
+    let is = told_at (right_place f.place) s.table c.rules-rules.result.now c.args.budget f.rule.right x c.reduce.result c.in_ok-reduced.ensures c.reduce.ensures.is c.rules-rules.ensures.value in
     let counted = renewal-counted c.args.equations c.args.budget f s x h is c.renewal-fork.ensures in
     let room = derived-room s.added s.table h c.chain_length.result counted c.chain_length.ensures ∙ sym c.if-not-has_room.ensures in
     let made = change_made c.args.equations c.args.budget f s x h is c.renewal-fork.ensures room in
@@ -55,6 +55,6 @@ returns c =
     record {
       value = answered_value s _ _ _ made;
       after = answered-leaves s _ _ _ _ made
-          (change-left c.args.equations c.args.budget f s x h is c.renewal-fork.ensures (rules_of w.table) (rules_of c.replace.new.self) _ c.replace.result (held w).added c.requires.within
-          (omega (arith, added-length w)) (ap rules_of c.note.ensures.table) c.replace.ensures.value c.replace.ensures.after c.note.ensures.added (omega (arith, added-length w)));
+          (change-left c.args.equations c.args.budget f s x h is c.renewal-fork.ensures w.table c.replace.new.self _ (is_ok c.replace.result) (held w).added
+          c.note.ensures.table (ap is_ok c.unwrap.ensures) c.replace.ensures.after c.note.ensures.added (omega (arith, added-length w)));
     }

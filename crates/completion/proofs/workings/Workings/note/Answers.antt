@@ -1,6 +1,5 @@
 use Rattle.std.proofs.Common.{length, refl, ap, ◌∙◌, ap₂, arith}
 use Rattle.worksheet.specs.Derivations.{derivations, lengths}
-use Rattle.tables.specs.Rows.{rules_of}
 use Rattle.questions.specs.Asking.{parting_of}
 use Rattle.completion.specs.Adding.{derived}
 use Rattle.completion.specs.States.{lines_of, chain_of}
@@ -12,30 +11,30 @@ pub push_chain-requires : goal.push_chain-requires
 push_chain-requires c =
     let w = c.args.self.now in
     let f = c.args.fork.now in
-    let long = derived-length (rules_of w.table) f c.requires.counted in
-    let room = roomy_parts w (length (derived (parting_of (rules_of w.table) f)).chain) c.requires.room in
+    let long = derived-length w.table f c.requires.counted in
+    let room = roomy_parts w (length (derived (parting_of w.table f)).chain) c.requires.room in
     record { counted = c.requires.counted; cited = c.requires.cited; room = omega arith }
 
 pub overflow_cast-chain_length : goal.overflow_cast-chain_length
 overflow_cast-chain_length c =
     let w = c.args.self.now in
     let f = c.args.fork.now in
-    let long = derived-length (rules_of w.table) f c.requires.counted in
-    let room = roomy_parts w (length (derived (parting_of (rules_of w.table) f)).chain) c.requires.room in
+    let long = derived-length w.table f c.requires.counted in
+    let room = roomy_parts w (length (derived (parting_of w.table f)).chain) c.requires.room in
     record { fits = omega arith }
 
 pub push_reserved-requires : goal.push_reserved-requires
 push_reserved-requires c =
     let w = c.args.self.now in
-    let room = roomy_parts w (length (derived (parting_of (rules_of w.table) c.args.fork.now)).chain) c.requires.room in
+    let room = roomy_parts w (length (derived (parting_of w.table c.args.fork.now)).chain) c.requires.room in
     omega arith
 
 pub invariant_of-self : goal.invariant_of-self
 invariant_of-self c =
     let w = c.args.self.now in
     let f = c.args.fork.now in
-    let long = derived-length (rules_of w.table) f c.requires.counted in
-    let room = roomy_parts w (length (derived (parting_of (rules_of w.table) f)).chain) c.requires.room in
+    let long = derived-length w.table f c.requires.counted in
+    let room = roomy_parts w (length (derived (parting_of w.table f)).chain) c.requires.room in
     let sum = ap lengths c.push_reserved.ensures.items ∙ lengths-push (lines_of w) _ in
     record { room = (omega arith, omega arith); few = (omega arith, omega arith); summed = omega (arith, sum) }
 
@@ -43,8 +42,8 @@ pub returns : goal.returns
 returns c =
     let w = c.args.self.now in
     let f = c.args.fork.now in
-    let long = derived-length (rules_of w.table) f c.requires.counted in
+    let long = derived-length w.table f c.requires.counted in
     record {
       table = refl;
-      added = ap₂ derivations c.push_reserved.ensures.items c.push_chain.ensures.items ∙ derivations_more (lines_of w) _ (chain_of w) (derived (parting_of (rules_of w.table) f)).chain (omega arith) (omega arith);
+      added = ap₂ derivations c.push_reserved.ensures.items c.push_chain.ensures.items ∙ derivations_more (lines_of w) _ (chain_of w) (derived (parting_of w.table f)).chain (omega arith) (omega arith);
     }

@@ -1,5 +1,5 @@
-use Rattle.std.proofs.Common.{◌≤◌, length, Ok, sym, ap, ◌∙◌, arith}
-use Rattle.tables.specs.Rows.{rules_of, equations_of}
+use Rattle.std.proofs.Common.{◌≤◌, length, sym, ap, ◌∙◌, arith}
+use Rattle.tables.specs.Citing.{citable}
 use Rattle.questions.proofs.Partings.{told_of}
 use Rattle.completion.specs.States.{held, answered, leaves}
 use Rattle.completion.proofs.Rounding.{fork_counted, fork_cited, round-forked}
@@ -7,17 +7,18 @@ use Rattle.completion.proofs.workings.Workings.round.Goals as goal
 
 pub add-requires : goal.add-requires
 add-requires g c =
-    let t = rules_of c.args.self.now.table in
-    let book = equations_of c.args.book.now in
-    let few : length book ≤ 32 = omega arith in
-    let told = told_of t c.args.budget book c.in-Forked.fork few c.args.self.now.table.cited (ap Ok (sym c.in-Forked.is) ∙ c.in_ok-fork.ensures) in
-    record { few = c.equations.ensures.bound; counted = fork_counted t c.args.budget book c.in-Forked.fork told; cited = fork_cited t c.args.budget book c.in-Forked.fork told }
+    let t = c.args.self.now.table in
+    let book = c.args.book.now in
+    let few : length book ≤ 32 = omega (arith, ap length c.equations-in-Err-Forked.ensures.value) in
+    let told = told_of t c.args.budget book c.in-Err-Forked.fork few (ap citable (sym c.rules-rules.ensures.value) ∙ c.rules-rules.ensures.cited) (rw c.in-Err-Forked.field-0-is at c.in-Err-Forked.ensures) in
+    rw c.in-Err-Forked.field-0-is
+    (record { few = c.equations-in-Err-Forked.ensures.bound; counted = fork_counted t c.args.budget book c.in-Err-Forked.fork told; cited = fork_cited t c.args.budget book c.in-Err-Forked.fork told })
 
-pub returns-in-Forked : goal.returns-in-Forked
-returns-in-Forked g c =
+pub returns-in-Err-Forked : goal.returns-in-Err-Forked
+returns-in-Err-Forked g c =
     let s = held c.args.self.now in
-    let book = equations_of c.args.book.now in
-    let few : length book ≤ 32 = omega arith in
-    let told = told_of s.table c.args.budget book c.in-Forked.fork few c.args.self.now.table.cited (ap Ok (sym c.in-Forked.is) ∙ c.in_ok-fork.ensures) in
-    let is = round-forked (g.O.Order.above c.args.order.now) c.args.capacity.now.rules (length c.equations.result.now) c.args.budget book s c.in-Forked.fork told (ap length c.equations.ensures.value) in
-    record { value = c.add.ensures.value ∙ ap answered is; after = c.add.ensures.after ∙ ap (leaves s) is }
+    let book = c.args.book.now in
+    let few : length book ≤ 32 = omega (arith, ap length c.equations-in-Err-Forked.ensures.value) in
+    let told = told_of s.table c.args.budget book c.in-Err-Forked.fork few (ap citable (sym c.rules-rules.ensures.value) ∙ c.rules-rules.ensures.cited) (rw c.in-Err-Forked.field-0-is at c.in-Err-Forked.ensures) in
+    let is = round-forked (g.O.Order.above c.args.order.now) c.args.capacity.now.rules (length c.equations-in-Err-Forked.result.now) c.args.budget book s c.in-Err-Forked.fork told (ap length c.equations-in-Err-Forked.ensures.value) in
+    record { value = (rw c.in-Err-Forked.field-0-is at c.add.ensures.value) ∙ ap answered is; after = (rw c.in-Err-Forked.field-0-is at c.add.ensures.after) ∙ ap (leaves s) is }

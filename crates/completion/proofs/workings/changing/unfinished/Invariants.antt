@@ -3,5 +3,5 @@ use Rattle.completion.specs.Changing.{unfinished}
 use Rattle.completion.proofs.workings.changing.unfinished.Given as goal
 
 -- what is still to be looked at gives what was asked for
-abbrev pub invariant-loop-i : goal.invariant-loop-i
-invariant-loop-i l = unfinished l.rules 0 l.rules ≡ unfinished l.rules l.i (drop l.i l.rules)
+abbrev pub invariant-loop-place : goal.invariant-loop-place
+invariant-loop-place l = unfinished l.rules 0 l.rules ≡ unfinished l.rules l.place (drop l.place l.rules)

@@ -1,9 +1,8 @@
 use Rattle.std.proofs.Common.{◌≡◌, ◌+◌, ◌-◌, ◌++◌, length, take, drop, Ok, sym, refl, ap, ◌∙◌, arith, length-take}
 use borrow.Rule.Slice.PartMut.{post_of}
 use Rattle.std.proofs.lemmas.List.{take_at, drop_at}
-use Rattle.tables.specs.declared.table.Table.{Table}
-use Rattle.tables.specs.Rows.{rules_of}
 use Rattle.rewriting.specs.declared.reduce.Reduced.{Reduced}
+use Rattle.questions.specs.declared.placed.Place.TheVariants.{Argument}
 use Rattle.questions.specs.Placed.{placed}
 use Rattle.questions.proofs.Walking.{reduce_walked}
 use Rattle.completion.specs.States.{held}
@@ -19,9 +18,9 @@ returns-then-not-same c =
     let t = (held g.workings).table in
     let one = c.in_ok-one.one in
     let two = c.in_ok-two.two in
-    let same = ap (λ (t : Table). rules_of t) c.table-table.ensures in
-    let p = placed_way t _ c.args.budget c.args.first.now 1 one _ (c.rules.ensures.value ∙ same) c.reduce.ensures.is c.in_ok-one.ensures in
-    let q = placed_way t _ (c.args.budget - one.steps) c.args.second.now 2 two _ (c.rules-2.ensures.value ∙ same) c.reduce-2.ensures.is c.in_ok-two.ensures in
+    let same = c.table-table.ensures in
+    let p = placed_way t _ c.args.budget c.args.first.now (Argument 1) one _ (c.rules.ensures.value ∙ same) c.reduce.ensures.is c.in_ok-one.ensures in
+    let q = placed_way t _ (c.args.budget - one.steps) c.args.second.now (Argument 2) two _ (c.rules-2.ensures.value ∙ same) c.reduce-2.ensures.is c.in_ok-two.ensures in
     let m = differs t c.args.first.now c.args.second.now (length c.args.chain.now) c.args.budget one two p q (sym c.if-not-same.ensures) in
     let w = well_matched g c.if-not-self.false c.args.first.now c.args.second.now (length c.args.chain.now) c.args.budget _ m in
     record { did = w.did; kept = refl; right = w.right }
@@ -36,14 +35,14 @@ returns c =
     let one = c.in_ok-one.one in
     let two = c.in_ok-two.two in
     let n = one.steps + two.steps in
-    let same = ap (λ (t : Table). rules_of t) c.table-table.ensures in
-    let p = placed_way t _ c.args.budget a 1 one _ (c.rules.ensures.value ∙ same) c.reduce.ensures.is c.in_ok-one.ensures in
-    let q = placed_way t _ (c.args.budget - one.steps) b 2 two _ (c.rules-2.ensures.value ∙ same) c.reduce-2.ensures.is c.in_ok-two.ensures in
+    let same = c.table-table.ensures in
+    let p = placed_way t _ c.args.budget a (Argument 1) one _ (c.rules.ensures.value ∙ same) c.reduce.ensures.is c.in_ok-one.ensures in
+    let q = placed_way t _ (c.args.budget - one.steps) b (Argument 2) two _ (c.rules-2.ensures.value ∙ same) c.reduce-2.ensures.is c.in_ok-two.ensures in
     let long-one : length p.way.trail ≡ one.steps = ap (λ (r : Reduced). r.steps) p.same in
     let long-two : length q.way.trail ≡ two.steps = ap (λ (r : Reduced). r.steps) q.same in
     let part : length (take (n - 0) row) ≡ n = omega (arith, length-take (n - 0) row) in
-    let Walked-one = reduce_walked 1 t c.args.budget a p.way (marks (placed 1) p.answered) in
-    let walked-two = reduce_walked 2 t (c.args.budget - one.steps) b q.way (marks (placed 2) q.answered) in
+    let Walked-one = reduce_walked (Argument 1) t c.args.budget a p.way (marks (placed (Argument 1)) p.answered) in
+    let walked-two = reduce_walked (Argument 2) t (c.args.budget - one.steps) b q.way (marks (placed (Argument 2)) q.answered) in
     let written : c.write_between.new.row ≡ chain_between p.way q.way =
     c.write_between.ensures ∙ between_fills t a b p.way q.way Walked-one walked-two (take (n - 0) row) one.steps two.steps long-one long-two part _ same in
     let long : length c.write_between.new.row ≡ n = ap length written ∙ length-between t a b p.way q.way Walked-one walked-two (take (n - 0) row) one.steps two.steps long-one long-two part in

@@ -1,7 +1,6 @@
 use Rattle.std.proofs.Common.{sym, ap, ◌∙◌, subst}
-use Rattle.tables.specs.declared.table.Table.{Table}
-use Rattle.tables.specs.Rows.{equations_of, rules_of}
 use Rattle.rewriting.specs.declared.reduce.Reduced.{Reduced}
+use Rattle.questions.specs.declared.placed.Place.TheVariants.{Argument}
 use Rattle.completion.specs.States.{held}
 use Rattle.register.specs.Contents.{Contents}
 use Rattle.register.specs.Promises.{StandardOf}
@@ -16,11 +15,11 @@ returns c =
     let a = c.args.load.now in
     let s = held g.workings in
     let r = c.in_ok-reduced.reduced in
-    let w = placed_way s.table _ c.args.budget a 1 r _ (c.rules.ensures.value ∙ ap (λ (t : Table). rules_of t) c.table.ensures) c.reduce.ensures.is c.in_ok-reduced.ensures in
+    let w = placed_way s.table _ c.args.budget a (Argument 1) r _ (c.rules.ensures.value ∙ c.table.ensures) c.reduce.ensures.is c.in_ok-reduced.ensures in
     let on = c.if-not-self.false in
     record {
       did = standard_did (view g) s (ap (λ b. sheet_if b s) on) a c.args.budget r w;
       stays = tt;
       family = subst (λ (x : Contents). StandardOf x a r.end) (sym (view_settled g on))
-          (subst (λ (e : Reduced). StandardOf (settled_with (equations_of g.book) s) a e.end) w.same (standard_guaranteed (equations_of g.book) s (guarantee g on) c.args.budget a w.way w.answered));
+          (subst (λ (e : Reduced). StandardOf (settled_with g.book s) a e.end) w.same (standard_guaranteed g.book s (guarantee g on) c.args.budget a w.way w.answered));
     }

@@ -1,5 +1,4 @@
 use Rattle.std.proofs.Common.{◌≡◌, ◌+◌, ◌-◌, length, sym, ap, ◌∙◌, arith}
-use Rattle.tables.specs.Rows.{rules_of}
 use Rattle.tables.specs.Trails.{trail}
 use Rattle.tables.proofs.Signs.{cited_back}
 use Rattle.tables.proofs.Strides.{trail-none, trail-some}
@@ -7,17 +6,17 @@ use Rattle.tables.proofs.Writing.{behind, behind_all, behind-none, behind_more}
 use Rattle.tables.proofs.table.Table.undo.Goals as goal
 
 pub loop-i-init : goal.loop-i-init
-loop-i-init c = behind_all (trail (rules_of c.args.self.now) (length c.args.row.now) c.args.load.now) c.args.row.now
+loop-i-init c = behind_all (trail c.args.self.now (length c.args.row.now) c.args.load.now) c.args.row.now
 
 pub returns-in_default : goal.returns-in_default
 returns-in_default c =
     let l = c.loop-i in
-    sym (l.invariant ∙ behind-none l.i _ l.row (trail-none (rules_of c.args.self.now) l.at l.i (sym c.in_default.ensures.is)))
+    sym (l.invariant ∙ behind-none l.i _ l.row (trail-none c.args.self.now l.at l.i (sym c.in_default.ensures.is)))
 
 pub loop-i-preserved : goal.loop-i-preserved
 loop-i-preserved c =
     let l = c.loop-i in
-    let t = rules_of c.args.self.now in
+    let t = c.args.self.now in
     let s = c.in-Some.made in
     let back : l.i ≡ l.i - 1 + 1 = omega arith in
     l.invariant

@@ -1,28 +1,12 @@
-use Rattle.std.proofs.Common.{◌≡◌, length, sym, ap, ◌∙◌, arith}
-use Rattle.std.specs.List.{insert}
-use Rattle.tables.proofs.Places.{place_here, place_next, place_last}
+use Rattle.std.proofs.Common.{rules, tests}
+use Rattle.std.proofs.lemmas.Iterator.{YieldsList-from_slice}
+use Rattle.std.proofs.lemmas.Iterator.Search.{position_from_yields_List}
+use Rattle.tables.proofs.Places.{stops, enters_at}
 use Rattle.tables.proofs.table.placing.place_of.Goals as goal
 
-pub returns-then-not-higher : goal.returns-then-not-higher
-returns-then-not-higher g c = record {
-  within = omega arith;
-  place =
-      place_here (g.O.Order.above c.args.order.now) c.args.rule.now c.args.rules.now c.loop-i.i c.index-rules-i.result c.loop-i-test.true c.index-rules-i.is (sym c.if-not-higher.ensures)
-      ∙ c.loop-i.invariant;
-}
-
-pub loop-i-preserved : goal.loop-i-preserved
-loop-i-preserved g c =
-    place_next (g.O.Order.above c.args.order.now) c.args.rule.now c.args.rules.now c.loop-i.i c.index-rules-i.result c.loop-i-test.true c.index-rules-i.is (sym c.if-not-higher.ensures)
-    ∙ c.loop-i.invariant
-
-pub returns : goal.returns
-returns g c =
-    let rs = c.args.rules.now in
-    let end : length rs ≡ c.loop-i.i = omega arith in
-    record {
-      within = omega arith;
-      place =
-          ap (λ n. insert rs n c.args.rule.now) end ∙ place_last (g.O.Order.above c.args.order.now) c.args.rule.now rs c.loop-i.i c.loop-i-test.false
-          ∙ c.loop-i.invariant;
-    }
+-- the place found is that of the first rule that stops this one
+pub returns-clause-place : goal.returns-clause-place
+returns-clause-place g c =
+    let above = g.O.Order.above c.args.order.now in
+    enters_at above c.args.rule.now c.args.rules.now c.position.result c.unwrap_or.result
+    (position_from_yields_List (stops above c.args.rule.now) _ _ _ c.position.ensures.ran (YieldsList-from_slice c.args.rules.now cc) (λ x b q k. search (rules, tests))) c.unwrap_or.ensures
