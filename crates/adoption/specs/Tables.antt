@@ -12,6 +12,9 @@ use Rattle.rewriting.specs.Reducing.{fitting}
 use Rattle.rewriting.specs.Swaps.{equation_of}
 use Rattle.questions.specs.Topics.{topics}
 use Rattle.questions.specs.Asking.{Ending, met, apart, ask_all}
+use Rattle.questions.specs.declared.question.Stop.{Stop}
+use Rattle.questions.specs.declared.question.Stop.TheVariants.{Forked}
+use Rattle.questions.specs.declared.question.Stop.TheVariants as stop
 use Rattle.adoption.specs.declared.fault.TableFault.{TableFault}
 use Rattle.adoption.specs.declared.fault.TableFault.TheVariants.{NotClaimed, NotFalling, NotReduced, Apart, Step}
 use Rattle.adoption.specs.Worksheets.{same_sides}
@@ -59,6 +62,11 @@ table_reduced above t = each (reduced_at above t) NotReduced 0 t
 -- the conditions on single rules, in order
 abbrev pub rules_hold : Relation → (lines : List Equation) → List Rule → Result (Unit {0}) TableFault
 rules_hold above lines t = rules_claimed lines t >>= λ _. rules_fall above t >>= λ _. table_reduced above t
+
+-- why asking stopped, as a fault of the table
+abbrev pub as_table_fault : Stop → TableFault
+as_table_fault (Forked f) = Apart f.question.place
+as_table_fault (stop.Step e) = Step e
 
 -- what is left of the budget, unless a question ends in two loads
 abbrev pub one_load : Ending → Result ℕ TableFault

@@ -1,9 +1,11 @@
 // Why a file is not adopted.
 ghost use Rattle.std.specs.Prelude.{◌≡◌};
+ghost use Rattle.adoption.specs.Tables.{as_table_fault};
 ghost use Rattle.adoption.specs.declared.fault.TableFault.TheVariants.{Step};
 ghost use Rattle.adoption.specs.declared.fault.AdoptFault.TheVariants as adopt;
 
-use questions::placed::Placed;
+use questions::placed::{Place, Placed};
+use questions::question::Stop;
 use rewriting::reduce::StepFault;
 use worksheet::fault::ReplayFault;
 
@@ -25,7 +27,7 @@ pub enum TableFault {
     NotClaimed(usize),
     NotFalling(usize),
     NotReduced(usize),
-    Apart(u16),
+    Apart(Place),
     Step(Placed<StepFault>),
 }
 
@@ -41,6 +43,17 @@ impl From<Placed<StepFault>> for TableFault {
 
     fn from(fault: Placed<StepFault>) -> TableFault {
         TableFault::Step(fault)
+    }
+}
+
+impl From<Stop> for TableFault {
+    ghost from_gives = { λ e r. r ≡ as_table_fault e };
+
+    fn from(stop: Stop) -> TableFault {
+        match stop {
+            Stop::Forked(fork) => TableFault::Apart(fork.question.place),
+            Stop::Step(fault) => TableFault::from(fault),
+        }
     }
 }
 

@@ -1,12 +1,13 @@
 // Reading the rules and the lines of a register.
 ghost use Rattle.std.specs.Prelude.{◌≡◌, length};
 ghost use Rattle.std.specs.Option.{option_map};
+ghost use Rattle.worksheet.specs.Claims.{claimed};
 ghost use Rattle.register.specs.Contents.{rules_in, lines_of, claim_at, chain_at};
 ghost use Rattle.register.specs.View.{view};
 
 use crate::register::Register;
 use worksheet::equation::Equation;
-use worksheet::replay::claim_at;
+use worksheet::lines::Lines;
 use worksheet::rule::Rule;
 
 impl Register {
@@ -15,6 +16,16 @@ impl Register {
         ensures { result.now ≡ rules_in (view self.now).sheet }
     {
         self.workings.table().rules()
+    }
+
+    // The lines by their numbers.
+    pub(crate) fn lines(&self) -> Lines
+        ensures { claimed result ≡ lines_of (view self.now) }
+    {
+        Lines {
+            book: self.book.equations(),
+            added: self.workings.lines(),
+        }
     }
 
     // How many lines there are: the equations of the book and the added lines.
@@ -28,10 +39,7 @@ impl Register {
     pub fn claim(&self, number: usize) -> Option<Equation>
         ensures { result ≡ claim_at (view self.now) number }
     {
-        if number == 0 {
-            return None;
-        }
-        claim_at(self.book.equations(), self.workings.lines(), number - 1)
+        self.lines().claim_at(number.checked_sub(1)?)
     }
 
     // The chain of an added line by its number; an equation has none.

@@ -6,7 +6,6 @@ use crate::register::Register;
 use loads::Load;
 use refusals::Refusal;
 use worksheet::net::net;
-use worksheet::replay::replay;
 
 // Where a chain ends, and for each article the end count less the start count: positive for goods received, negative for goods given.
 #[derive(Clone, Copy)]
@@ -20,7 +19,7 @@ impl Register {
     pub fn replay(&self, load: &Load, chain: &[i16]) -> Result<Outcome, Refusal>
         ensures { Did (view self.now) (Replay load.now chain.now) (replied (λ x. Replayed x.end x.net) result) (view self.now) }
     {
-        let end = replay(self.book.equations(), self.workings.lines(), chain, load)?;
+        let end = self.lines().replay(chain, load)?;
         Ok(Outcome {
             end,
             net: net(load, &end),

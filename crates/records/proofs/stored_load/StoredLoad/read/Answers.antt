@@ -28,4 +28,4 @@ pub returns : goal.returns
 unfolding load_at
 returns c =
     let l = c.loop-count in
-    c.of.ensures ∙ ap of_counts (counts_end c.args.self.now.bytes.now l.count-items l.count-index l.left l.place _ l.invariant (omega arith))
+    c.from.ensures ∙ ap of_counts (counts_end c.args.self.now.bytes.now l.count-items l.count-index l.left l.place _ l.invariant (omega arith))
