@@ -1,7 +1,7 @@
 -- The chain of each line in the row of all chain numbers.
 use Rattle.std.proofs.Common.{◌≡◌, ℕ, zero, suc, ◌+◌, ◌-◌, ◌<◌, ◌≤◌, List, [], ◌∷◌, length, get_or, take, drop, ℤ, Some, None, sym, refl, ap, ◌∙◌, ap₂, arith, drop-drop}
 use Rattle.std.specs.Option.{option_map}
-use Rattle.std.proofs.lemmas.List.Sums.{sum_by-cons, sum_by_more, sum_by-take-le}
+use Rattle.std.proofs.lemmas.List.Sums.{sum_by-cons}
 use Rattle.worksheet.specs.declared.line.Line.{Line}
 use Rattle.worksheet.specs.Claims.{nth}
 use Rattle.worksheet.specs.Derivations.{Derivation, derivations, lengths}
@@ -18,14 +18,7 @@ derivation_at (l ∷ ls) zs (suc k) d h =
     ∙ ap (λ x. Some (record { claim = (get_or ls k d).claim; chain = take (get_or ls k d).length x }))
     (drop-drop (lengths (take k ls)) l.length zs ∙ ap (λ n. drop n zs) (sym (sum_by-cons (λ (x : Line). x.length) l (take k ls))))
 
--- a line's numbers after those of the lines before it, and no more than all
 module _ (ls : List Line) (i : ℕ) (l : Line) (h : i < length ls) (is : l ≡ get_or ls i l) where
-  pub lengths_more : lengths (take i ls) + l.length ≡ lengths (take (i + 1) ls)
-  lengths_more = ap (λ (x : Line). lengths (take i ls) + x.length) is ∙ sym (sum_by_more (λ (x : Line). x.length) ls i l h)
-
-  pub lengths_within : lengths (take i ls) + l.length ≤ lengths ls
-  lengths_within = omega (arith, lengths_more, sum_by-take-le (λ (x : Line). x.length) ls (i + 1))
-
   -- the line's own numbers, as the code cuts them out
   pub own_chain : (zs row : List ℤ) (start : ℕ) → start ≡ lengths (take i ls) → row ≡ zs
       → Some (take (start + l.length - start) (drop start row)) ≡ option_map (λ (d : Derivation). d.chain) (nth (derivations ls zs) i)

@@ -1,6 +1,6 @@
 -- The rule of a fork: what each way out of the call has shown.
-use Rattle.std.proofs.Common.{◌≡◌, ℕ, ◌<◌, ◌≤◌, Bool, true, false, cond, List, [], ◌∷◌, ◌++◌, length, Ok, Err, Result, sym, refl, ap, ◌∙◌, subst, ap₂}
-use Rattle.std.proofs.lemmas.Bool.{lt-ltb, le-ltb, cond-true, cond_both}
+use Rattle.std.proofs.Common.{◌≡◌, ℕ, ◌<◌, Bool, true, false, cond, List, [], ◌∷◌, ◌++◌, length, Ok, Err, Result, sym, refl, ap, ◌∙◌, subst, ap₂}
+use Rattle.std.proofs.lemmas.Bool.{lt-ltb, cond-true, cond_both}
 use Rattle.loads.specs.Answers.{◌>>=◌, check}
 use Rattle.orders.specs.Laws.{Relation}
 use Rattle.worksheet.specs.declared.rule.Rule.{Rule}
@@ -13,7 +13,7 @@ use Rattle.questions.specs.declared.question.Fork.{Fork}
 use Rattle.questions.specs.Questions.{turned_bridge, Cited}
 use Rattle.questions.specs.Asking.{Parting, turned_parting, parting_of, fork_of, turned_fork}
 use Rattle.completion.specs.declared.fault.RoundFault.{RoundFault}
-use Rattle.completion.specs.declared.fault.RoundFault.TheVariants.{Full, NoRoom}
+use Rattle.completion.specs.declared.fault.RoundFault.TheVariants.{NoRoom}
 use Rattle.std.specs.declared.ops.ControlFlow.TheVariants.{Continue}
 use Rattle.completion.specs.Room.{roomy}
 use Rattle.completion.specs.States.{State}
@@ -55,10 +55,6 @@ module _ (above : Relation) (capacity n : ℕ) (f g : Fork) (s : State) (is : g 
 
   abbrev kept : List Rule
   kept = without g.first.end s.table
-
-  -- the table is at its capacity
-  pub fork_full : capacity ≤ length kept → forked above capacity n f s ≡ Err (Full g.question.place)
-  fork_full h = opened ∙ rw (le-ltb (length kept) capacity h) refl
 
   module _ (h : length kept < capacity) where
     room_asked : (b : Bool) → roomy s.added (length new.chain) ≡ b

@@ -96,10 +96,6 @@ module _ (n b : ℕ) (f : Found) (s : State) (x : Reduced) (h : Fork) (is : Ok x
       ∙ ap (λ k. check (roomy s.added (length (derived (parting_of s.table k)).chain)) (NoRoom (right_place f.place)) >>= λ _. Ok (Continue k.left, changed k)) (sym same)
       ∙ ap (λ d. check d (NoRoom (right_place f.place)) >>= λ _. Ok (Continue h.left, changed h)) e
 
-  -- the worksheet has no room
-  pub change_no_room : roomy s.added (length (derived (parting_of s.table h)).chain) ≡ false → finished n b f s ≡ Err (NoRoom (right_place f.place))
-  change_no_room = asked false
-
   -- the rule is changed
   pub change_made : roomy s.added (length (derived (parting_of s.table h)).chain) ≡ true → finished n b f s ≡ Ok (Continue h.left, changed h)
   change_made = asked true

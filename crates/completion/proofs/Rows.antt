@@ -1,8 +1,8 @@
 -- Rows of one and two places, a row written in three parts, and a row that a trail fills.
-use Rattle.std.proofs.Common.{◌≡◌, ℕ, ◌+◌, ◌-◌, ◌≤◌, List, [], ◌∷◌, ◌++◌, length, take, drop, set, replicate, ℤ, pos, neg_ℤ, sym, refl, ap, ◌∙◌, ap₂, arith, length-append, length-drop, length-take}
+use Rattle.std.proofs.Common.{◌≡◌, ℕ, ◌+◌, ◌-◌, ◌≤◌, List, [], ◌∷◌, ◌++◌, length, take, drop, set, ℤ, pos, neg_ℤ, sym, refl, ap, ◌∙◌, ap₂, arith, length-append, length-drop, length-take}
 use borrow.Rule.Slice.PartMut.{put_mid, post_of}
 use lib.ListN.{length-map}
-use Rattle.std.proofs.lemmas.List.{append-nil, append_assoc, length-replicate, take_all, take_at, drop_all}
+use Rattle.std.proofs.lemmas.List.{append-nil, append_assoc, take_at, drop_all}
 use Rattle.std.proofs.lemmas.Slice.{take-put_mid}
 use Rattle.loads.specs.declared.Load.{Load}
 use Rattle.worksheet.specs.declared.rule.Rule.{Rule}
@@ -45,17 +45,6 @@ module _ {X : Type 0} where
         (drop_all (length (two-written row xs ys s n) - (s + n)) (drop (s + n) (two-written row xs ys s n)) (omega (arith, length-drop (s + n) (two-written row xs ys s n))))
         ∙ ap (λ x. xs ++ ys ++ x) (append-nil zs)
         ∙ append_assoc xs ys zs
-
--- a row that was made longer by n places, which are then written with zs
-module _ {X : Type 0} (old row zs : List X) (z : X) (m n : ℕ) (long : length old ≡ m) (grown : row ≡ take (m + n) old ++ replicate (m + n - m) z) (written : length zs ≡ n) where
-  pub length_grown : length row ≡ m + n
-  length_grown = ap length grown ∙ omega (arith, length-append (take (m + n) old) (replicate (m + n - m) z), length-take (m + n) old, length-replicate (m + n - m) z)
-
-  pub row_pushed : take m row ++ (zs ++ post_of m (length row - m) row) ≡ old ++ zs
-  row_pushed =
-      ap₂ (λ x y. x ++ (zs ++ y)) (ap (take m) grown ∙ ap (λ x. take m (x ++ replicate (m + n - m) z)) (take_all (m + n) old (omega arith)) ∙ take_at old (replicate (m + n - m) z) m long)
-      (drop_all (length row - m) (drop m row) (omega (arith, length-drop m row)))
-      ∙ ap (λ x. old ++ x) (append-nil zs)
 
 pub length-forward : (ns : List ℕ) → length (forward ns) ≡ length ns
 length-forward ns = length-map ns pos

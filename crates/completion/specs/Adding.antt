@@ -1,5 +1,7 @@
 -- The rule that a question leads to whose loads end apart.
-use Rattle.std.specs.Prelude.{ℕ, cond, List, [], ◌∷◌, ◌++◌, length, ℤ, pos, neg_ℤ, Ok, Result, nat_lt}
+use Rattle.std.specs.Prelude.{ℕ, ◌+◌, cond, List, [], ◌∷◌, ◌++◌, length, ℤ, pos, neg_ℤ, Ok, Result, nat_lt}
+use mathlib.Core.HLevel.{×_prop}
+use Rattle.std.proofs.Math.Bridge.{le_prop}
 use Rattle.loads.specs.Answers.{◌>>=◌, check}
 use Rattle.orders.specs.Laws.{Relation}
 use Rattle.worksheet.specs.declared.equation.Equation.{Equation}
@@ -10,7 +12,8 @@ use Rattle.questions.specs.declared.placed.Place.{Place}
 use Rattle.questions.specs.declared.question.Bridge.{Bridge}
 use Rattle.questions.specs.declared.question.Bridge.TheVariants.{Forward, Backward, Peak}
 use Rattle.questions.specs.declared.question.Fork.{Fork}
-use Rattle.questions.specs.Asking.{Parting, turned_parting, turned_fork}
+use Rattle.questions.specs.Questions.{Cited}
+use Rattle.questions.specs.Asking.{Parting, turned_parting, turned_fork, parting_of}
 use Rattle.completion.specs.declared.fault.RoundFault.{RoundFault}
 use Rattle.completion.specs.declared.fault.RoundFault.TheVariants.{Full}
 use Rattle.worksheet.specs.Derivations.{Derivation}
@@ -27,6 +30,14 @@ derived p = record {
   claim = record { left = p.first.end; right = p.second.end };
   chain = undo (forward p.first.trail) ++ (between p.question.bridge ++ forward p.second.trail);
 }
+
+-- how many numbers the chain of a fork has
+abbrev pub chain_length : Fork → ℕ
+chain_length f = f.first.steps + (length (between f.question.bridge) + f.second.steps)
+
+-- the chain of a fork in a table
+abbrev pub fork_chain : List Rule → Fork → List ℤ
+fork_chain t f = (derived (parting_of t f)).chain
 
 -- with the higher end first
 abbrev pub oriented : Relation → Parting → Parting
@@ -45,3 +56,9 @@ abbrev pub admit : Relation → (capacity : ℕ) (place : Place) → Rule → Li
 admit above capacity place r t =
     check (nat_lt (length (without r.left t)) capacity) (Full place) >>= λ _.
     Ok (enter above r (without r.left t))
+
+-- that a chain can cite the lines of a bridge holds in one way at most
+pub Cited-prop : (b : Bridge) → IsProp (Cited b)
+Cited-prop (Forward k) = le_prop
+Cited-prop (Backward k) = le_prop
+Cited-prop (Peak i j) = ×_prop le_prop le_prop

@@ -2,7 +2,7 @@
 ghost use Rattle.std.specs.Prelude.{◌≡◌, ◌+◌, ◌≤◌, ◌++◌, length, vec_len, vec_capacity};
 ghost use Rattle.questions.specs.Questions.{Cited};
 ghost use Rattle.questions.specs.Asking.{parting_of, fork_of};
-ghost use Rattle.completion.specs.Adding.{between, derived};
+ghost use Rattle.completion.specs.Adding.{between, chain_length, fork_chain, Cited-prop};
 
 use questions::question::{Bridge, Fork};
 use tables::table::Table;
@@ -35,35 +35,43 @@ fn cross(bridge: &Bridge, row: &mut [i16])
 
 // How many numbers the chain of a fork has.
 pub(crate) fn chain_length(fork: &Fork) -> usize
-    ensures { result ≡ fork.now.first.steps + (length (between fork.now.question.bridge) + fork.now.second.steps) }
+    ensures { result ≡ chain_length fork.now }
 {
     fork.first.steps as usize + (span(&fork.question.bridge) + fork.second.steps as usize)
 }
 
-// Writes the chain of a fork: from its first end back to its first load, over to its second load, and on to its second end.
-fn write_chain(table: &Table, fork: &Fork, row: &mut [i16])
-    requires counted { fork_of (parting_of table.now fork.now) ≡ fork.now }
-    requires cited { Cited fork.now.question.bridge }
-    requires long { length row.old ≡ fork.now.first.steps + (length (between fork.now.question.bridge) + fork.now.second.steps) }
-    ensures { row.new ≡ (derived (parting_of table.now fork.now)).chain }
-{
-    let start = fork.first.steps as usize;
-    let end = start + span(&fork.question.bridge);
-    table.undo(&fork.question.first, &mut row[0..start]);
-    cross(&fork.question.bridge, &mut row[start..end]);
-    table.follow(&fork.question.second, &mut row[end..]);
+// A fork of a table, whose steps the table leads again, and whose lines a chain can cite.
+#[derive(Clone, Copy)]
+pub(crate) struct Traced<'a> {
+    pub(crate) table: &'a Table,
+    pub(crate) fork: &'a Fork,
+    ghost counted: { fork_of (parting_of table.now fork.now) ≡ fork.now },
+    ghost cited: { Cited fork.now.question.bridge } by { Cited-prop fork.now.question.bridge },
 }
 
-// Adds the chain of a fork at the end of a row that has room for it.
-pub(crate) fn push_chain(table: &Table, fork: &Fork, row: &mut Vec<i16>)
-    requires counted { fork_of (parting_of table.now fork.now) ≡ fork.now }
-    requires cited { Cited fork.now.question.bridge }
-    requires room { vec_len row.old + (fork.now.first.steps + (length (between fork.now.question.bridge) + fork.now.second.steps)) ≤ vec_capacity row.old }
-    ensures items { row.new.items ≡ row.old.items ++ (derived (parting_of table.now fork.now)).chain }
-    ensures len { vec_len row.new ≡ vec_len row.old + (fork.now.first.steps + (length (between fork.now.question.bridge) + fork.now.second.steps)) }
-    ensures capacity { vec_capacity row.old ≤ vec_capacity row.new }
-{
-    let start = row.len();
-    let _ = row.resize(start + chain_length(fork), 0);
-    write_chain(table, fork, &mut row.as_mut_slice()[start..]);
+impl Traced<'_> {
+    // Writes the chain: from the first end of the fork back to its first load, over to its second load, and on to its second end.
+    fn write(&self, row: &mut [i16])
+        requires { length row.old ≡ chain_length self.now.fork.now }
+        ensures { row.new ≡ fork_chain self.now.table.now self.now.fork.now }
+    {
+        let question = &self.fork.question;
+        let start = self.fork.first.steps as usize;
+        let end = start + span(&question.bridge);
+        self.table.undo(&question.first, &mut row[0..start]);
+        cross(&question.bridge, &mut row[start..end]);
+        self.table.follow(&question.second, &mut row[end..]);
+    }
+
+    // Adds the chain at the end of a row that has room for it.
+    pub(crate) fn push(&self, row: &mut Vec<i16>)
+        requires { vec_len row.old + chain_length self.now.fork.now ≤ vec_capacity row.old }
+        ensures items { row.new.items ≡ row.old.items ++ fork_chain self.now.table.now self.now.fork.now }
+        ensures len { vec_len row.new ≡ vec_len row.old + chain_length self.now.fork.now }
+        ensures capacity { vec_capacity row.old ≤ vec_capacity row.new }
+    {
+        let start = row.len();
+        row.resize(start + chain_length(self.fork), 0).unwrap();
+        self.write(&mut row.as_mut_slice()[start..]);
+    }
 }

@@ -5,4 +5,5 @@ pub mod capacity;
 pub mod chaining;
 pub mod fault;
 pub mod found;
+pub mod task;
 pub mod workings;

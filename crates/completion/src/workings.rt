@@ -7,6 +7,7 @@ use worksheet::line::Line;
 
 // The table, and the added lines of the worksheet with their chains: at most 512 lines and 4,096 chain numbers, in room that is reserved once. The
 // chains stand in one row, in the order of the lines.
+// There is no model: clauses also speak of the two rows, which a view as table and derivations would leave out.
 #[derive(Drop)]
 pub struct Workings {
     table: Table,

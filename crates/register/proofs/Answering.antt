@@ -52,10 +52,6 @@ pub placed_way : (t u : List Rule) (b : ℕ) (a : Load) (k : Place) (r : Reduced
 placed_way t u b a k r x same is e = way_of t b a r (sym (unmarked (placed k) x r (sym e)) ∙ is ∙ ap (λ v. told (reduce v b a)) same)
 
 module _ (c : Contents) (s : State) (settled : c.sheet ≡ Some s) where
-  -- a load is reduced
-  pub standard_did : (a : Load) (b : ℕ) (r : Reduced) → WayOf s.table b a r → Did c (calls.Standard a b) (calls.Reduced r.end r.steps) c
-  standard_did a b r w = subst (λ (r : Reduced). Did c (calls.Standard a b) (calls.Reduced r.end r.steps) c) w.same (record { said = rw (settled, w.answered); left = rw (settled, w.answered) })
-
   -- two loads are matched
   pub match_did : (a b : Load) (room budget : ℕ) (v : Verdict) → match s.table a b room budget ≡ Ok v → Did c (calls.Match a b room budget) (calls.Matched v) c
   match_did a b room budget v e = record { said = rw (settled, e); left = rw (settled, e) }

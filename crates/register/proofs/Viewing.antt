@@ -1,14 +1,12 @@
 -- The rows of a register and what it shows.
-use Rattle.std.proofs.Common.{◌≡◌, ℕ, zero, suc, ◌+◌, ◌-◌, ◌<◌, ◌≤◌, Bool, true, false, ltb, List, [], ◌∷◌, ◌++◌, map, length, drop, ℤ, None, sym, refl, ap, ◌∙◌, arith}
-use Rattle.std.specs.Option.{option_map}
-use Rattle.std.proofs.lemmas.Bool.{lt-ltb, le-ltb, cond-true, cond-false}
+use Rattle.std.proofs.Common.{◌≡◌, ℕ, zero, suc, ◌-◌, ◌<◌, Bool, true, false, List, [], ◌∷◌, ◌++◌, map, length, drop, ℤ, sym, refl, ap, ◌∙◌, arith}
 use Rattle.worksheet.specs.declared.equation.Equation.{Equation}
 use Rattle.worksheet.specs.declared.line.Line.{Line}
 use Rattle.worksheet.specs.Claims.{nth, claims}
 use Rattle.worksheet.specs.Derivations.{Derivation, derivations}
 use Rattle.completion.specs.States.{held, lines_of as added-lines}
 use Rattle.register.specs.declared.register.Register.{Register}
-use Rattle.register.specs.Contents.{Contents, rules_in, added_in, lines_of, claim_at, chain_at}
+use Rattle.register.specs.Contents.{Contents, added_in, lines_of, claim_at}
 use Rattle.register.specs.View.{view}
 
 -- a row without a length
@@ -17,14 +15,7 @@ none_long [] e = refl
 none_long (x ∷ xs) e = absurd (omega arith)
 
 module _ (g : Register) where
-  -- an open register has no rules and no added lines, and shows none
-  pub rules-shown : rules_in (view g).sheet ≡ (held g.workings).table
-  rules-shown = go g.settled refl
-    where
-      go : (b : Bool) → g.settled ≡ b → rules_in (view g).sheet ≡ (held g.workings).table
-      go true e = rw e refl
-      go false e = rw e (sym (none_long (held g.workings).table (g.bare e).0))
-
+  -- an open register has no added lines, and shows none
   pub added-shown : added_in (view g).sheet ≡ (held g.workings).added
   added-shown = go g.settled refl
     where
@@ -48,15 +39,3 @@ lines-shown g book ls p q =
 pub claim_numbered : (c : Contents) (n : ℕ) → 0 < n → claim_at c n ≡ nth (lines_of c) (n - 1)
 claim_numbered c zero h = absurd (omega arith)
 claim_numbered c (suc k) h = ap (nth (lines_of c)) (omega arith)
-
-module _ (g : Register) (n : ℕ) where
-  -- an equation has no chain
-  pub equation-chain : n ≤ length g.book → chain_at (view g) n ≡ None
-  equation-chain h = cond-false (ltb (length g.book) n) _ None (le-ltb (length g.book) n h)
-
-  -- an added line has its own
-  pub added-chain : length g.book < n
-      → chain_at (view g) n ≡ option_map (λ (d : Derivation). d.chain) (nth (held g.workings).added (n - (length g.book + 1)))
-  added-chain h =
-      cond-true (ltb (length g.book) n) _ None (lt-ltb (length g.book) n h)
-      ∙ ap (λ (ds : List Derivation). option_map (λ (d : Derivation). d.chain) (nth ds (n - (length g.book + 1)))) (added-shown g)

@@ -9,6 +9,7 @@ use completion::workings::Workings;
 use tables::book::Book;
 
 // A book, and when it is settled a table and a worksheet. All room is reserved once, so that no later call wants memory.
+// The flag stands beside the workings, since an open register keeps their room. There is no model: callers read the guarantee from the type.
 #[derive(Drop)]
 pub struct Register {
     pub(crate) book: Book,

@@ -4,6 +4,7 @@ ghost use Rattle.register.specs.View.{view};
 
 use crate::register::Register;
 use completion::capacity::Capacity;
+use completion::task::Task;
 use orders::order::Order;
 use refusals::Refusal;
 
@@ -28,10 +29,15 @@ impl Register {
         if self.settled {
             return Err(Refusal::NotOpen);
         }
-        let Ok(most) = Capacity::try_from(capacity as usize) else {
+        let Ok(capacity) = Capacity::try_from(capacity as usize) else {
             return Err(Refusal::Capacity);
         };
-        let steps = self.workings.settle(order, &most, &self.book, budget)?;
+        let task = Task {
+            order,
+            capacity,
+            book: &self.book,
+        };
+        let steps = self.workings.settle(&task, budget)?;
         self.settled = true;
         Ok(Counts {
             rules: self.workings.table().rules().len(),

@@ -1,15 +1,11 @@
 -- A trail written into a row, one number at a time: what is left to write gives what was asked for.
 use Rattle.std.proofs.Common.{◌≡◌, ℕ, suc, ◌+◌, ◌-◌, ◌<◌, List, [], ◌∷◌, ◌++◌, length, take, drop, set, ℤ, pos, neg_ℤ, sym, ap, ◌∙◌, arith, length-take}
-use Rattle.std.proofs.lemmas.List.{append-nil, append_assoc, take-append-drop, take_all, take_more_set, take-set, take-take, drop_all, drop-set, drop-set-lt, drop-drop, length-append}
+use Rattle.std.proofs.lemmas.List.{append-nil, append_assoc, take-append-drop, take_all, take_more_set, take-set, take-take, drop-set, drop-set-lt, drop-drop, length-append}
 use Rattle.tables.specs.Trails.{forward, undo, over_front, over_back}
 
 -- the row with the first i numbers written, and these to come
 abbrev pub ahead : ℕ → List ℕ → List ℤ → List ℤ
 ahead i ns row = take i row ++ over_front (forward ns) (drop i row)
-
--- nothing is to come
-pub ahead_none : (i : ℕ) (ns : List ℕ) (row : List ℤ) → ns ≡ [] → ahead i ns row ≡ row
-ahead_none i ns row e = rw e (take-append-drop i row)
 
 -- one number more
 pub ahead_more : (i n : ℕ) (ns ms : List ℕ) (row : List ℤ) (z : ℤ) → i < length row → ns ≡ n ∷ ms → z ≡ pos n → ahead i ns row ≡ ahead (i + 1) ms (set row i z)
@@ -22,13 +18,6 @@ ahead_more i n ns ms row z h e q =
 -- the row with the numbers from i on written, and these to come before them, the first of them last
 abbrev pub behind : ℕ → List ℕ → List ℤ → List ℤ
 behind i ns row = over_back (undo (forward ns)) (take i row) ++ drop i row
-
--- all are to come
-pub behind_all : (ns : List ℕ) (row : List ℤ) → over_back (undo (forward ns)) row ≡ behind (length row) ns row
-behind_all ns row =
-    sym (append-nil (over_back (undo (forward ns)) row))
-    ∙ ap (λ r. over_back (undo (forward ns)) r ++ []) (sym (take_all (length row) row (omega arith)))
-    ∙ ap (λ r. over_back (undo (forward ns)) (take (length row) row) ++ r) (sym (drop_all (length row) row (omega arith)))
 
 -- nothing is to come
 pub behind-none : (i : ℕ) (ns : List ℕ) (row : List ℤ) → ns ≡ [] → behind i ns row ≡ row

@@ -1,30 +1,17 @@
-use Rattle.std.proofs.Common.{◌≡◌, ◌+◌, length, is_ok, sym, refl, ap, ◌∙◌, subst, arith}
+use Rattle.std.proofs.Common.{◌≡◌, ◌+◌, length, is_ok, sym, ap, ◌∙◌, subst, arith}
 use Rattle.std.proofs.lemmas.List.{length_push}
 use Rattle.tables.specs.Citing.{citable}
 use Rattle.tables.proofs.Citing.{citable-at}
 use Rattle.questions.specs.declared.question.Fork.{Fork}
 use Rattle.questions.specs.Questions.{Cited}
 use Rattle.questions.specs.Asking.{parting_of}
-use Rattle.completion.specs.declared.fault.RoundFault.TheVariants.{NoRoom}
 use Rattle.completion.specs.States.{held}
 use Rattle.completion.specs.Adding.{derived}
 use Rattle.completion.specs.Changing.{right_place}
-use Rattle.completion.proofs.Leaving.{refused_value, refused_leaves, answered_value, answered-leaves}
+use Rattle.completion.proofs.Leaving.{answered_value, answered-leaves}
 use Rattle.completion.proofs.Rooms.{added-length, derived-room}
-use Rattle.completion.proofs.Renewing.{told_at, renewal-counted, change_no_room, change_made, change-left}
+use Rattle.completion.proofs.Renewing.{told_at, renewal-counted, change_made, change-left}
 use Rattle.completion.proofs.workings.Workings.change.Goals as goal
-
-pub returns-then-not-has_room : goal.returns-then-not-has_room
-returns-then-not-has_room c =
-    let s = held c.args.self.now in
-    let f = c.args.found.now in
-    let x = c.in_ok-reduced.reduced in
-    let h = c.renewal-fork.result in
-    let is = told_at (right_place f.place) s.table c.rules-rules.result.now c.args.budget f.rule.right x c.reduce.result c.in_ok-reduced.ensures c.reduce.ensures.is c.rules-rules.ensures.value in
-    let counted = renewal-counted c.args.equations c.args.budget f s x h is c.renewal-fork.ensures in
-    let none = derived-room s.added s.table h c.chain_length.result counted c.chain_length.ensures ∙ sym c.if-not-has_room.ensures in
-    let out = change_no_room c.args.equations c.args.budget f s x h is c.renewal-fork.ensures none in
-    record { value = refused_value s _ (NoRoom (right_place f.place)) out; after = refused_leaves s _ (NoRoom (right_place f.place)) s out refl }
 
 pub note-requires : goal.note-requires
 note-requires c =

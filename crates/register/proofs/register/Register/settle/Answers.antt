@@ -33,7 +33,7 @@ invariant_of-self-2 g c =
     let r = c.args.self.now in
     let above = g.O.Order.above c.args.order.now in
     let z = answered_so blank _ (held c.settle.new.self) c.in_ok-steps.ensures.after _ c.in_ok-steps.ensures.value in
-    let sound = settle_guarantees above (g.met.O.Order.laws c.args.order.now) r.book r.small c.in-Ok.most.rules c.args.budget _ _ z in
+    let sound = settle_guarantees above (g.met.O.Order.laws c.args.order.now) r.book r.small c.in-Ok.capacity.rules c.args.budget _ _ z in
     record { bare = (λ e. absurd (false≢true (sym e))); small = r.small; sound = ∥∥₁_map sound (λ k _. k) }
 
 pub returns : goal.returns

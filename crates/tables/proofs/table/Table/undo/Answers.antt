@@ -1,12 +1,9 @@
-use Rattle.std.proofs.Common.{◌≡◌, ◌+◌, ◌-◌, length, sym, ap, ◌∙◌, arith}
+use Rattle.std.proofs.Common.{◌≡◌, ◌+◌, ◌-◌, sym, ap, ◌∙◌, arith}
 use Rattle.tables.specs.Trails.{trail}
 use Rattle.tables.proofs.Signs.{cited_back}
 use Rattle.tables.proofs.Strides.{trail-none, trail-some}
-use Rattle.tables.proofs.Writing.{behind, behind_all, behind-none, behind_more}
+use Rattle.tables.proofs.Writing.{behind, behind-none, behind_more}
 use Rattle.tables.proofs.table.Table.undo.Goals as goal
-
-pub loop-i-init : goal.loop-i-init
-loop-i-init c = behind_all (trail c.args.self.now (length c.args.row.now) c.args.load.now) c.args.row.now
 
 pub returns-in_default : goal.returns-in_default
 returns-in_default c =
