@@ -1,6 +1,8 @@
-use Rattle.std.proofs.Common.{◌≡◌, ◌+◌, ◌-◌, ◌++◌, length, take, drop, Ok, sym, refl, ap, ◌∙◌, arith, length-take}
+use Rattle.std.proofs.Common.{◌≡◌, ◌+◌, ◌-◌, ◌++◌, length, take, drop, Ok, sym, refl, ap, ◌∙◌, arith, rules, true, length-take}
 use borrow.Rule.Slice.PartMut.{post_of}
 use Rattle.std.proofs.lemmas.List.{take_at, drop_at}
+use Rattle.loads.specs.Tests.{alike}
+use Rattle.loads.proofs.Deciding.{same-alike}
 use Rattle.rewriting.specs.declared.reduce.Reduced.{Reduced}
 use Rattle.questions.specs.declared.placed.Place.TheVariants.{Argument}
 use Rattle.questions.specs.Placed.{placed}
@@ -21,9 +23,14 @@ returns-then-not-same c =
     let same = c.table-table.ensures in
     let p = placed_way t _ c.args.budget c.args.first.now (Argument 1) one _ (c.rules.ensures.value ∙ same) c.reduce.ensures.is c.in_ok-one.ensures in
     let q = placed_way t _ (c.args.budget - one.steps) c.args.second.now (Argument 2) two _ (c.rules-2.ensures.value ∙ same) c.reduce-2.ensures.is c.in_ok-two.ensures in
-    let m = differs t c.args.first.now c.args.second.now (length c.args.chain.now) c.args.budget one two p q (sym c.if-not-same.ensures) in
+    let m = differs t c.args.first.now c.args.second.now (length c.args.chain.now) c.args.budget one two p q (sym (same-alike _ _) ∙ sym c.if-not-same.ensures) in
     let w = well_matched g c.if-not-self.false c.args.first.now c.args.second.now (length c.args.chain.now) c.args.budget _ m in
     record { did = w.did; kept = refl; right = w.right }
+
+pub returns-then-steps-chain-clause-did : goal.returns-then-steps-chain-clause-did
+returns-then-steps-chain-clause-did c =
+    let e : alike c.in_ok-one.one.end c.in_ok-two.two.end ≡ true = sym (same-alike _ _) ∙ sym c.if-not-same.ensures in
+    search rules
 
 pub returns : goal.returns
 returns c =
@@ -48,6 +55,6 @@ returns c =
     let long : length c.write_between.new.row ≡ n = ap length written ∙ length-between t a b p.way q.way Walked-one walked-two (take (n - 0) row) one.steps two.steps long-one long-two part in
     let rest = post_of 0 (n - 0) row in
     let shown : take n (c.write_between.new.row ++ rest) ≡ chain_between p.way q.way = take_at c.write_between.new.row rest n long ∙ written in
-    let m = equals t a b (length row) c.args.budget one two p q (sym c.if-not-same.ensures) (omega arith) ∙ ap (λ zs. Ok (equal zs)) (sym shown) in
+    let m = equals t a b (length row) c.args.budget one two p q (sym (same-alike _ _) ∙ sym c.if-not-same.ensures) (omega arith) ∙ ap (λ zs. Ok (equal zs)) (sym shown) in
     let w = well_matched g c.if-not-self.false a b (length row) c.args.budget _ m in
     record { did = w.did; kept = drop_at c.write_between.new.row rest n long ∙ ap (λ k. drop k row) (omega arith); right = w.right }
