@@ -14,9 +14,8 @@ impl Written for Load {
     fn write(&self, out: &mut [u8]) {
         out[0] = self.presence();
         let mut at = 1;
-        for article in 0..8 {
-            let count = self.count(article);
-            if count > 0 {
+        for count in self.counts() {
+            if *count > 0 {
                 count.write(&mut out[at..at + 2]);
                 at += 2;
             }
