@@ -23,7 +23,8 @@ fn is_claimed(lines: &Lines, rule: &Rule) -> bool
     rule.left == claim.left && rule.right == claim.right
 }
 
-// The rules are what their lines claim.
+// The rules are what their lines claim. This check and the two below go over the rules in the same way, each with a test and a fault of its own: one
+// function for them would take both as parameters, and its contract would speak of calls of closures.
 pub fn check_claims(lines: &Lines, rules: &[Rule]) -> Result<(), TableFault>
     ensures { result ≡ rules_claimed (claimed lines.now) rules.now }
 {

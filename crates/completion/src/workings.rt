@@ -6,7 +6,7 @@ use tables::table::Table;
 use worksheet::line::Line;
 
 // The table, and the added lines of the worksheet with their chains: at most 512 lines and 4,096 chain numbers, in room that is reserved once. The
-// chains stand in one row, in the order of the lines.
+// chains stand in one row, in the order of the lines: a row for each would want memory while a book is settled.
 // There is no model: clauses also speak of the two rows, which a view as table and derivations would leave out.
 #[derive(Drop)]
 pub struct Workings {
