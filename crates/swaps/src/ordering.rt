@@ -97,7 +97,7 @@ pub(crate) fn read_order(words: &mut Words) -> Option<Chosen> {
 }
 
 // Settles a register under the order that was named. As an `impl Order for Chosen` this match would be made at each comparison, and a settling
-// took 2 to 4 % longer.
+// took 1 to 5 % longer.
 pub(crate) fn settle_by(
     register: &mut Register,
     order: Chosen,
