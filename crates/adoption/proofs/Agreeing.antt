@@ -12,8 +12,8 @@ use Rattle.adoption.specs.Worksheets.{same_sides, agree, own_equations}
 -- `==` of two equations, as it is derived
 abbrev pub equal : Equation → Equation → Bool
 equal d e =
-    (eqb d.left.presence e.left.presence && pointwise eqb d.left.counts e.left.counts)
-    && (eqb d.right.presence e.right.presence && pointwise eqb d.right.counts e.right.counts)
+    (pointwise eqb d.left.counts e.left.counts && eqb d.left.presence e.left.presence)
+    && (pointwise eqb d.right.counts e.right.counts && eqb d.right.presence e.right.presence)
 
 same_equal : (d e : Equation) → equal d e ≡ same_sides d e
 same_equal d e = ap₂ (λ a b. a && b) (same-alike d.left e.left) (same-alike d.right e.right)

@@ -13,8 +13,8 @@ impl From<[u16; 8]> for Load {
 
     fn from(counts: [u16; 8]) -> Load {
         Load {
-            presence: presence_of(&counts),
             counts,
+            presence: presence_of(&counts),
         }
     }
 }
@@ -25,8 +25,8 @@ impl Load {
         ensures { result ≡ empty }
     {
         Load {
-            presence: 0,
             counts: [0; 8],
+            presence: 0,
         }
     }
 

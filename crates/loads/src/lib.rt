@@ -4,12 +4,12 @@
 ghost use Rattle.std.specs.Prelude.{◌≡◌, T, length, ◌==◌};
 ghost use Rattle.loads.specs.Bits.{bits};
 
-// A load, an exponent vector to the algebraist: the counts of articles 1 to 8. Before them it keeps its presence byte, a bit for each article that
-// it has a piece of, so that most questions are answered before a count is read.
+// A load, an exponent vector to the algebraist: the counts of articles 1 to 8. Beside them it keeps its presence byte, a bit for each article that
+// it has a piece of, so that most questions are answered before a count is read. The byte stands last: copies of loads are slower where it is first.
 #[derive(Clone, Copy, PartialEq, Eq)]
 pub struct Load {
-    presence: u8,
     counts: [u16; 8],
+    presence: u8,
     ghost eight: { T (length counts == 8) },
     ghost present: { presence ≡ bits counts },
 }
