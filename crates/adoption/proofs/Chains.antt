@@ -10,7 +10,7 @@ use Rattle.worksheet.specs.Claims.{claims}
 use Rattle.worksheet.specs.Derivations.{Derivation, derivations}
 use Rattle.soundness.specs.Sheets.{lines}
 use Rattle.soundness.proofs.Answering.{went, goes, checked, passes}
-use Rattle.adoption.specs.declared.fault.WorksheetFault.TheVariants.{Uneven}
+use Rattle.adoption.specs.declared.fault.WorksheetFault.TheVariants.{TooHigh, TooLow}
 use Rattle.adoption.specs.Worksheets.{even_chains}
 use Rattle.adoption.specs.Adopting.{line_of, all_chains}
 use Rattle.adoption.specs.Theorems.{SmallLines}
@@ -56,7 +56,7 @@ so_even n [] = refl
 so_even n (d ∷ ds) =
     let k = length-append d.chain (all_chains ds) in
     let left : length (d.chain ++ all_chains ds) - length d.chain ≡ length (all_chains ds) = omega arith in
-    goes _ (passes (Uneven n) (le-leb (length d.chain) (length (d.chain ++ all_chains ds)) (omega arith))) (rw left (so_even (n + 1) ds))
+    goes _ (passes (TooHigh n) (le-leb (length d.chain) (length (d.chain ++ all_chains ds)) (omega arith))) (rw left (so_even (n + 1) ds))
 
 abbrev derivation : Equation → List ℤ → Derivation
 derivation e zs = record { claim = e; chain = zs }

@@ -16,7 +16,7 @@ use Rattle.worksheet.specs.Replay.{replay}
 use Rattle.rewriting.specs.Reducing.{fitting, search}
 use Rattle.soundness.proofs.Answering.{went, checked}
 use Rattle.adoption.specs.declared.fault.WorksheetFault.{WorksheetFault}
-use Rattle.adoption.specs.declared.fault.WorksheetFault.TheVariants.{Uneven, Elsewhere}
+use Rattle.adoption.specs.declared.fault.WorksheetFault.TheVariants.{TooHigh, TooLow, Elsewhere}
 use Rattle.adoption.specs.declared.fault.TableFault.{TableFault}
 use Rattle.adoption.specs.Worksheets.{even_chains, line_replays, lines_replay}
 use Rattle.adoption.specs.Tables.{each, stated}
@@ -59,14 +59,14 @@ turned_test false false fits e h = absurd (false≢true e)
 
 -- a line more takes its numbers
 module _ (n : ℕ) (ls : List Line) (i left : ℕ) where
-  pub even_end : length ls ≤ i → even_chains n (drop i ls) left ≡ check (eqb left 0) (Uneven 0)
+  pub even_end : length ls ≤ i → even_chains n (drop i ls) left ≡ check (eqb left 0) (TooLow)
   even_end h = at_drop_all (λ ks. even_chains n ks left) ls i h
 
   module _ (l : Line) (h : i < length ls) (read : l ≡ get_or ls i l) where
     even_here : even_chains n (drop i ls) left ≡ even_chains n (l ∷ drop (i + 1) ls) left
     even_here = at_drop_more (λ ks. even_chains n ks left) ls i l h ∙ ap (λ k. even_chains n (k ∷ drop (i + 1) ls) left) (sym read)
 
-    pub even_stop : leb l.length left ≡ false → even_chains n (drop i ls) left ≡ Err (Uneven n)
+    pub even_stop : leb l.length left ≡ false → even_chains n (drop i ls) left ≡ Err (TooHigh n)
     even_stop e = even_here ∙ rw e
 
     pub even_next : leb l.length left ≡ true → even_chains n (drop i ls) left ≡ even_chains (n + 1) (drop (i + 1) ls) (left - l.length)

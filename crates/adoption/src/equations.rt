@@ -10,7 +10,7 @@ pub fn check_equations(own: &[Equation], file: &[Equation]) -> Result<(), Worksh
     ensures { result ≡ own_equations own.now file.now }
 {
     if own.len() != file.len() {
-        return Err(WorksheetFault::Differs(0));
+        return Err(WorksheetFault::OtherCount);
     }
     match own
         .iter()

@@ -9,13 +9,15 @@ use questions::question::Stop;
 use rewriting::reduce::StepFault;
 use worksheet::fault::ReplayFault;
 
-// What is wrong with the file's equations and lines. An equation that is not the register's own, by its number, or 0 where the counts differ; the
-// line at which the chain lengths pass the chain numbers, or 0 where they do not reach them; a line whose chain cannot be followed; a line whose
-// chain ends elsewhere than it claims. Lines are counted from 1, the equations first.
+// What is wrong with the file's equations and lines: there are more or fewer equations than the register has; one is not the register's own, by its
+// number; the chain lengths pass the chain numbers at a line, or do not reach them; a line's chain cannot be followed; a line's chain ends elsewhere
+// than it claims. Lines are counted from 1, the equations first.
 #[derive(Clone, Copy)]
 pub enum WorksheetFault {
+    OtherCount,
     Differs(usize),
-    Uneven(usize),
+    TooHigh(usize),
+    TooLow,
     Replay(usize, ReplayFault),
     Elsewhere(usize),
 }

@@ -9,21 +9,22 @@ use worksheet::equation::Equation;
 use worksheet::line::Line;
 use worksheet::lines::Lines;
 
-// The lines take all chain numbers, and no more.
+// The lines take all chain numbers, and no more. This check and the one of all lines below take the book and the lines apart: they count or cut the
+// lines, and `Lines` is what is known by number.
 fn check_lengths(book: &[Equation], lines: &[Line], numbers: usize) -> Result<(), WorksheetFault>
     ensures { result ≡ even_chains (length book.now + 1) lines.now numbers }
 {
     let mut left = numbers;
     for (i, line) in lines.iter().enumerate() {
         let Some(rest) = left.checked_sub(usize::from(line.length)) else {
-            return Err(WorksheetFault::Uneven(book.len() + i + 1));
+            return Err(WorksheetFault::TooHigh(book.len() + i + 1));
         };
         left = rest;
     }
     if left == 0 {
         Ok(())
     } else {
-        Err(WorksheetFault::Uneven(0))
+        Err(WorksheetFault::TooLow)
     }
 }
 

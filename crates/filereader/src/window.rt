@@ -40,7 +40,7 @@ impl<'a, R> Window<'a, R> {
         }
     }
 
-    // Another window on the same section. What has a lifetime and a model cannot be `Copy`.
+    // Another window on the same section. What has a lifetime and a model cannot be `Copy`, and `Clone` would give a `Result`.
     pub(crate) fn copied(&self) -> Window<'a, R>
         ensures { result ≡ self.now }
     {

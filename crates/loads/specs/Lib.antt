@@ -5,3 +5,4 @@ pub mod Tests
 pub mod Totals
 pub mod Presence
 pub mod Exchange
+pub mod Sameness

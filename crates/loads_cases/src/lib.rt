@@ -7,8 +7,8 @@ mod tests {
     use loads::exchange::ExchangeFault;
     use worksheet::equation::Equation;
     use worksheet::fault::{ReplayFault, SwapFault};
+    use worksheet::lines::Lines;
     use worksheet::net::net;
-    use worksheet::replay::replay;
 
     // So many of the first article and of the last.
     fn ends(first: u16, last: u16) -> Load {
@@ -46,12 +46,26 @@ mod tests {
             left: ends(2, 0),
             right: ends(0, 1),
         }];
-        assert!(rt; replay(&book, &[], &[1, -1, 1], &ends(3, 0)) == Ok(ends(1, 1)));
+        assert!(rt;
+            (Lines {
+                book: &book,
+                added: &[]
+            })
+            .replay(&[1, -1, 1], &ends(3, 0))
+                == Ok(ends(1, 1))
+        );
         assert_eq!(rt; net(&ends(3, 0), &ends(1, 1))[0], -2);
         let fault = ReplayFault {
             step: 2,
             fault: SwapFault::NoLine,
         };
-        assert!(rt; replay(&book, &[], &[1, -32768], &ends(2, 0)) == Err(fault));
+        assert!(rt;
+            (Lines {
+                book: &book,
+                added: &[]
+            })
+            .replay(&[1, -32768], &ends(2, 0))
+                == Err(fault)
+        );
     }
 }

@@ -12,13 +12,9 @@ use Rattle.loads.proofs.Algebra.{at-empty, at-plus}
 use Rattle.loads.proofs.Summing.{sum_more, sum_like, sum-plus, sum_zero}
 use Rattle.orders.specs.Laws.{Relation, Admissible}
 use Rattle.orders.specs.Relations.{levelled, first_larger, turned, down, bulk}
+use Rattle.orders.specs.Places.{all_down}
 use Rattle.orders.specs.Rows.{row, row_above}
 use Rattle.orders.specs.Keys.{Additive, by_row, laws_like}
-
--- what holds at each place that is passed on the way down
-all_down : (P : ℕ → Type 0) (n : ℕ) → AllByRecursion P (down n) → (k : ℕ) → k < n → P k
-all_down P zero h k l = absurd (omega arith)
-all_down P (suc n) h k l = elim (cases_eq k n) [ inl e ↦ rw e h.0 | inr ne ↦ all_down P n h.1 k (omega arith) ]
 
 -- the total of the first n articles
 abbrev front : Load → ℕ → ℕ

@@ -4,6 +4,7 @@ pub mod Relations
 pub mod Named
 pub mod Worked
 pub mod BulkLaws
+pub mod Places
 pub mod Rows
 pub mod Pairs
 pub mod Rankings

@@ -12,7 +12,8 @@ use tables::table::Table;
 use worksheet::equation::Equation;
 use worksheet::rule::Rule;
 
-// Reduces the first load of a question, then the second. Gives what is left of the budget, as the other functions do that ask.
+// Reduces the first load of a question, then the second. Gives what is left of the budget, as the other functions do that ask. Rules and budget are
+// no struct: the budget is another at each call, and what is left of it is the answer.
 fn ask(rules: &[Rule], question: &Question, budget: u32) -> Result<u32, Stop>
     ensures { result ≡ outcome (ask rules.now budget question.now) }
 {

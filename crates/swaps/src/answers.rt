@@ -106,7 +106,7 @@ impl fmt::Display for Reduced {
     }
 }
 
-// A verdict, and the row whose first places hold its chain.
+// A verdict, and the row whose first places hold its chain: it was lent to the register, whose verdict tells how many.
 #[derive(Clone, Copy)]
 pub(crate) struct Matched<'a> {
     pub(crate) verdict: Verdict,
@@ -196,6 +196,7 @@ fn tell_line(register: &Register, number: usize, out: &mut String) -> Result<(),
     Ok(())
 }
 
+// Lines are asked for by number: a claim lies in the book or among the added lines, and no row holds them all.
 pub(crate) fn tell_lines(register: &Register, out: &mut String) -> Result<(), NoMemory> {
     let count = register.line_count();
     if count == 0 {

@@ -96,8 +96,8 @@ pub(crate) fn read_order(words: &mut Words) -> Option<Chosen> {
     }
 }
 
-// Settles a register under the order that was named. As an `impl Order for Chosen` this match would be made at each comparison, and a settling
-// took 1 to 5 % longer.
+// Settles a register under the order that was named. One order over all five would be no plainer: its relation, its laws and its comparing would each
+// go through the five cases that stand here once. It proved, and a settling took 1 to 5 % longer.
 pub(crate) fn settle_by(
     register: &mut Register,
     order: Chosen,

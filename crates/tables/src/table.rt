@@ -3,7 +3,7 @@ use std::marker::Model;
 use worksheet::rule::Rule;
 
 // At most 128 rules. Their line numbers are at most 544, so that a chain can cite them.
-// Book and table are two types and no generic row: all that they share is that their room is reserved once.
+// Book and table are two types and no generic row: each would still say how it is made, read and filled, now over a third type.
 #[derive(Drop)]
 pub struct Table {
     rules: Vec<Rule>,
