@@ -10,7 +10,7 @@ use Rattle.worksheet.specs.Claims.{claims}
 use Rattle.worksheet.specs.Derivations.{Derivation, derivations}
 use Rattle.soundness.specs.Sheets.{lines}
 use Rattle.soundness.proofs.Answering.{went, goes, checked, passes}
-use Rattle.adoption.specs.declared.fault.WorksheetFault.TheVariants.{TooHigh, TooLow}
+use Rattle.adoption.specs.declared.fault.WorksheetFault.TheVariants.{TooHigh}
 use Rattle.adoption.specs.Worksheets.{even_chains}
 use Rattle.adoption.specs.Adopting.{line_of, all_chains}
 use Rattle.adoption.specs.Theorems.{SmallLines}

@@ -59,7 +59,7 @@ turned_test false false fits e h = absurd (false≢true e)
 
 -- a line more takes its numbers
 module _ (n : ℕ) (ls : List Line) (i left : ℕ) where
-  pub even_end : length ls ≤ i → even_chains n (drop i ls) left ≡ check (eqb left 0) (TooLow)
+  pub even_end : length ls ≤ i → even_chains n (drop i ls) left ≡ check (eqb left 0) TooLow
   even_end h = at_drop_all (λ ks. even_chains n ks left) ls i h
 
   module _ (l : Line) (h : i < length ls) (read : l ≡ get_or ls i l) where

@@ -40,10 +40,10 @@ so_agree k [] = refl
 so_agree k (d ∷ own) = goes _ (passes (Differs k) (so_same d)) (so_agree (k + 1) own)
 
 pub own_so : (own file : List Equation) (u : Unit {0}) → own_equations own file ≡ Ok u → own ≡ file
-own_so own file u h = let f = went (check (eqb (length own) (length file)) (OtherCount)) (λ _. agree 1 own file) u h in agree_so 1 own file u f.then
+own_so own file u h = let f = went (check (eqb (length own) (length file)) OtherCount) (λ _. agree 1 own file) u h in agree_so 1 own file u f.then
 
 pub so_own : (own : List Equation) → own_equations own own ≡ Ok tt
-so_own own = goes _ (passes (OtherCount) (eq-eqb (length own) (length own) refl)) (so_agree 1 own)
+so_own own = goes _ (passes OtherCount (eq-eqb (length own) (length own) refl)) (so_agree 1 own)
 
 -- every line replays
 pub lines_so : (known : List Equation) (ds : List Derivation) (u : Unit {0}) → All (λ (d : Derivation). fits d.claim.left ≡ true) ds → lines_replay known ds ≡ Ok u

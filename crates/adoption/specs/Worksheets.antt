@@ -16,17 +16,17 @@ same_sides d e = alike d.left e.left && alike d.right e.right
 -- the equations agree one by one; the first has number k
 abbrev pub agree : (k : ℕ) → (own file : List Equation) → Result (Unit {0}) WorksheetFault
 agree k [] [] = Ok tt
-agree k [] (e ∷ file) = Err (OtherCount)
-agree k (d ∷ own) [] = Err (OtherCount)
+agree k [] (e ∷ file) = Err OtherCount
+agree k (d ∷ own) [] = Err OtherCount
 agree k (d ∷ own) (e ∷ file) = check (same_sides d e) (Differs k) >>= λ _. agree (k + 1) own file
 
 -- the file has the register's own equations: as many, and the same
 abbrev pub own_equations : (own file : List Equation) → Result (Unit {0}) WorksheetFault
-own_equations own file = check (length own == length file) (OtherCount) >>= λ _. agree 1 own file
+own_equations own file = check (length own == length file) OtherCount >>= λ _. agree 1 own file
 
 -- the lines, the first of them with number n, take all the chain numbers that are left, and no more
 abbrev pub even_chains : (n : ℕ) → List Line → (left : ℕ) → Result (Unit {0}) WorksheetFault
-even_chains n [] left = check (left == 0) (TooLow)
+even_chains n [] left = check (left == 0) TooLow
 even_chains n (l ∷ ls) left = check (nat_le l.length left) (TooHigh n) >>= λ _. even_chains (n + 1) ls (left - l.length)
 
 -- the line's chain leads from its left load to its right load, by the lines before it; its number is the next
