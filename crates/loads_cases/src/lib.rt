@@ -7,8 +7,16 @@ mod tests {
     use loads::exchange::ExchangeFault;
     use worksheet::equation::Equation;
     use worksheet::fault::{ReplayFault, SwapFault};
+    use worksheet::line::Line;
     use worksheet::lines::Lines;
     use worksheet::net::net;
+
+    // Follows a chain by the equations of a book alone.
+    fn follow(book: &[Equation], chain: &[i16], load: &Load) -> Result<Load, ReplayFault> {
+        let none: [Line; 0] = [];
+        let lines = Lines { book, added: &none };
+        lines.replay(chain, load)
+    }
 
     // So many of the first article and of the last.
     fn ends(first: u16, last: u16) -> Load {
@@ -46,26 +54,12 @@ mod tests {
             left: ends(2, 0),
             right: ends(0, 1),
         }];
-        assert!(rt;
-            (Lines {
-                book: &book,
-                added: &[]
-            })
-            .replay(&[1, -1, 1], &ends(3, 0))
-                == Ok(ends(1, 1))
-        );
+        assert!(rt; follow(&book, &[1, -1, 1], &ends(3, 0)) == Ok(ends(1, 1)));
         assert_eq!(rt; net(&ends(3, 0), &ends(1, 1))[0], -2);
         let fault = ReplayFault {
             step: 2,
             fault: SwapFault::NoLine,
         };
-        assert!(rt;
-            (Lines {
-                book: &book,
-                added: &[]
-            })
-            .replay(&[1, -32768], &ends(2, 0))
-                == Err(fault)
-        );
+        assert!(rt; follow(&book, &[1, -32768], &ends(2, 0)) == Err(fault));
     }
 }
