@@ -46,8 +46,8 @@ pub enum Refusal {
     Replay(ReplayFault),
 }
 
-// What is told of a refusal: its number, the part that refuses, the place, and the step that a replay keeps. The number is the one that is printed
-// and that docs/REFUSALS.md lists; in the code a refusal is a `Refusal`.
+// What is told of a refusal: its number, the part that refuses, the place, and the step that a replay keeps. Number and place are the ones
+// that are printed and that docs/REFUSALS.md lists, the place 0 where there is none; in the code a refusal is a `Refusal`.
 #[derive(Clone, Copy, PartialEq, Eq, Debug)]
 pub struct Told {
     pub number: u8,

@@ -1,4 +1,4 @@
--- The record of an added line: its two loads and the length of its chain. No other file of the definitions knows this layout.
+-- The record of an added line: its two loads and the length of its chain.
 use Rattle.std.specs.Prelude.{ℕ, ◌+◌, Bool, ◌&&◌, List, ◌++◌, nat_le}
 use Rattle.worksheet.specs.declared.line.Line.{Line}
 use Rattle.swapfile.specs.Bytes.{number_at, number_bytes}

@@ -27,7 +27,8 @@ fn oriented<O: Order>(order: &O, fork: &Fork) -> Fork
 }
 
 impl Workings {
-    // Adds the rule of a fork to the table, the higher end to the other, and its line to the worksheet.
+    // Adds the rule of a fork to the table, the higher end to the other, and its line to the worksheet. What it asks of the fork is no ghost field of
+    // `Fork`, for the reason that stands at `note`.
     pub(crate) fn add<O: Order>(
         &mut self,
         task: &Task<'_, O>,
