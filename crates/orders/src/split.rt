@@ -1,6 +1,7 @@
 // The split order: two orders of any kind, each for its part of the articles.
 ghost use Rattle.std.specs.Prelude.{◌≡◌, cond};
 ghost use Rattle.std.specs.Bool.{beq};
+ghost use Rattle.loads.specs.Loads.{at};
 ghost use Rattle.orders.specs.Relations.{part, split};
 ghost use Rattle.orders.specs.SplitLaws.{split_laws};
 
@@ -13,11 +14,11 @@ use std::cmp::Ordering;
 #[derive(Clone, Copy)]
 pub struct Marks(pub [bool; 8]);
 
-// A count, or 0 where its mark is not `side`.
-fn kept(mark: bool, side: bool, count: u16) -> u16
-    ensures { result ≡ cond (beq mark side) count 0 }
+// The count at a place, or 0 where the mark of the place is not `side`: the count is not read then.
+fn kept(mark: bool, side: bool, load: &Load, place: usize) -> u16
+    ensures { result ≡ cond (beq mark side) (at load.now place) 0 }
 {
-    if mark == side { count } else { 0 }
+    if mark == side { load.count(place) } else { 0 }
 }
 
 impl Marks {
@@ -26,7 +27,7 @@ impl Marks {
     fn part(&self, load: &Load, side: bool) -> Load
         ensures { result ≡ part self.now.0 side load.now }
     {
-        Load::from(array::from_fn(|i| kept(self.0[i], side, load.count(i))))
+        Load::from(array::from_fn(|i| kept(self.0[i], side, load, i)))
     }
 }
 
