@@ -1,5 +1,5 @@
 // Records of two loads and a number behind them. Which kinds of record are laid out so, their own files say.
-ghost use Rattle.std.specs.Prelude.{◌≡◌, ◌+◌, ◌<◌, ◌≤◌, ℕ, length, MatchOption};
+ghost use Rattle.std.specs.Prelude.{◌≡◌, ◌+◌, ◌<◌, ◌≤◌, ℕ, List, length, MatchOption};
 ghost use Rattle.worksheet.specs.declared.equation.Equation.{Equation};
 ghost use Rattle.swapfile.specs.Bytes.{number_at};
 ghost use Rattle.swapfile.specs.Equations.{equation_at};
@@ -15,11 +15,17 @@ use worksheet::equation::Equation;
 
 // What two loads and a number make. A `From` of them would have to stand in `worksheet`, which knows nothing of files.
 pub trait Numbered: Copy {
+    // The value of the record that begins at a byte, by the file's format.
+    ghost stored: { List ℕ → ℕ → Self };
+
     // The value of them.
     ghost of: { Equation → ℕ → Self };
 
     fn of(sides: Equation, number: u16) -> Self
         ensures { result ≡ of sides number };
+
+    // it is made of the two loads that begin at the byte and the number behind them
+    ghost made: { (b : List ℕ) (at : ℕ) → stored b at ≡ of (equation_at b at) (number_at b (at + sides_size b at)) };
 }
 
 // Two loads and the number behind them, which the bytes hold.
@@ -55,7 +61,7 @@ impl<N: Numbered> Record for N {
 
     ghost item = { numbered_item };
 
-    ghost value = { λ b at. N.of (equation_at b at) (number_at b (at + sides_size b at)) };
+    ghost value = { N.stored };
 
     ghost enough = { Prim.search rules };
 
