@@ -1,6 +1,7 @@
 -- What the calls of a settled register come to.
-use Rattle.std.proofs.Common.{◌≡◌, ℕ, ◌+◌, ◌-◌, ◌≤◌, true, false, leb, List, length, Some, Ok, Err, Result, sym, refl, ap, ◌∙◌, subst, ap₂}
+use Rattle.std.proofs.Common.{◌≡◌, ℕ, ◌+◌, ◌-◌, ◌≤◌, true, false, leb, List, length, Some, None, Ok, Err, Result, sym, refl, ap, ◌∙◌, subst, ap₂}
 use mathlib.Core.Logic.{∥∥₁_map}
+use Rattle.std.specs.Result.{result_err}
 use Rattle.loads.specs.declared.Load.{Load}
 use Rattle.std.proofs.lemmas.Bool.{le-leb}
 use Rattle.loads.specs.Answers.{marked}
@@ -56,6 +57,10 @@ module _ (c : Contents) (s : State) (settled : c.sheet ≡ Some s) where
   pub match_did : (a b : Load) (room budget : ℕ) (v : Verdict) → match s.table a b room budget ≡ Ok v → Did c (calls.Match a b room budget) (calls.Matched v) c
   match_did a b room budget v e = record { said = rw (settled, e); left = rw (settled, e) }
 
+  -- and nothing is refused
+  pub match_passed : (a b : Load) (room budget : ℕ) (v : Verdict) → match s.table a b room budget ≡ Ok v → None ≡ result_err (calls.matching c a b room budget)
+  match_passed a b room budget v e = rw (settled, e) refl
+
 -- what a match comes to, by its two reductions
 module _ (t : List Rule) (a b : Load) (room budget : ℕ) (one two : Reduced) (p : WayOf t budget a one) (q : WayOf t (budget - one.steps) b two) where
   steps_one : length p.way.trail ≡ one.steps
@@ -89,6 +94,7 @@ module _ (t : List Rule) (a b : Load) (room budget : ℕ) (one two : Reduced) (p
 -- an answered match of a settled register does what the call says, and is right
 pub record WellMatched (g : Register) (a b : Load) (room budget : ℕ) (v : Verdict) : Type 0 where
   pub did : Did (view g) (calls.Match a b room budget) (calls.Matched v) (view g)
+  pub refused : None ≡ result_err (calls.matching (view g) a b room budget)
   pub right : MatchIsRight (view g) a b v
 
 pub well_matched : (g : Register) → g.settled ≡ true → (a b : Load) (room budget : ℕ) (v : Verdict) → match (held g.workings).table a b room budget ≡ Ok v → WellMatched g a b room budget v
@@ -96,5 +102,6 @@ well_matched g on a b room budget v e =
     let s = held g.workings in
     record {
       did = match_did (view g) s (ap (λ b. sheet_if b s) on) a b room budget v e;
+      refused = match_passed (view g) s (ap (λ b. sheet_if b s) on) a b room budget v e;
       right = subst (λ (c : Contents). MatchIsRight c a b v) (sym (view_settled g on)) (match_guaranteed g.book s (guarantee g on) a b room budget v e);
     }

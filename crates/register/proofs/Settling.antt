@@ -2,6 +2,7 @@
 use Rattle.std.proofs.Common.{◌≡◌, ℕ, ◌+◌, Bool, true, false, List, length, Some, None, Ok, Err, Result, sym, refl, ap, ◌∙◌, ap₂}
 use mathlib.Core.Logic.{∥∥₁_map}
 use Rattle.std.specs.List.{AllByRecursion as All}
+use Rattle.std.specs.Result.{result_err}
 use Rattle.orders.specs.Laws.{Relation, Admissible}
 use Rattle.worksheet.specs.declared.equation.Equation.{Equation}
 use Rattle.completion.specs.declared.fault.RoundFault.{RoundFault}
@@ -15,7 +16,7 @@ use Rattle.refusals.specs.Refusals.{told, as_refusal}
 use Rattle.register.specs.Contents.{Contents}
 use Rattle.register.specs.Guarantee.{Guaranteed}
 use Rattle.register.specs.View.{contents_of}
-use Rattle.register.specs.Calls.{Settle, Counted, Refused, Did}
+use Rattle.register.specs.Calls.{Settle, Counted, Refused, Did, settling}
 
 -- what the answer and the state after it say of the definition
 module _ {X S E : Type 0} (start : S) (x : Result (X × S) E) (after : S) (is : after ≡ leaves start x) where
@@ -37,6 +38,14 @@ module _ {X S E : Type 0} (start : S) (x : Result (X × S) E) (after : S) (is : 
       go (Err g) d = let h : ◌≡◌ {A = Result X E} (Err f) (Err g) = e ∙ ap answered d in let same : f ≡ g = cc in (d ∙ ap Err (sym same), is ∙ ap (leaves start) d)
 
 module _ (above : Relation) (c : Contents) (none : c.sheet ≡ None) (capacity budget : ℕ) (passes : in_limits capacity ≡ true) where
+  -- the book is settled, and nothing is refused
+  pub settle_passed : (n : ℕ) (s : State) → settle above capacity c.book budget ≡ Ok (n, s) → None ≡ result_err (settling c above capacity budget)
+  settle_passed n s e = rw (none, passes, e) refl
+
+  -- a round is refused, and so the call
+  pub settle_stopped : (f : RoundFault) → settle above capacity c.book budget ≡ Err f → Some (as_refusal f) ≡ result_err (settling c above capacity budget)
+  settle_stopped f e = rw (none, passes, e) refl
+
   -- the book is settled
   pub settle_did : (n : ℕ) (s : State) → settle above capacity c.book budget ≡ Ok (n, s)
       → Did c (Settle above capacity budget) (Counted (length s.table) (length c.book + length s.added) n) (record { book = c.book; sheet = Some s })

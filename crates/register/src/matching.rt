@@ -1,7 +1,8 @@
 // Whether one load can be turned into another.
 ghost use Rattle.std.specs.Prelude.{◌≡◌, ◌≤◌, ◌++◌, length, take, drop, IfOk};
+ghost use Rattle.std.specs.Result.{result_err};
 ghost use Rattle.tables.specs.Trails.{forward, undo, trail, over_front, over_back};
-ghost use Rattle.register.specs.Calls.{Match, Matched, Did, replied};
+ghost use Rattle.register.specs.Calls.{Match, Matched, Did, replied, matching};
 ghost use Rattle.register.specs.Lent.{told_verdict, ChainKept};
 ghost use Rattle.register.specs.Promises.{MatchIsRight};
 ghost use Rattle.register.specs.View.{view};
@@ -34,6 +35,7 @@ impl Register {
         budget: u32,
     ) -> Result<Verdict, Refusal>
         ensures did { Did (view self.now) (Match first.now second.now (length chain.old) budget) (replied (λ v. Matched (told_verdict v chain.new)) result) (view self.now) }
+        ensures refused { result_err result ≡ result_err (matching (view self.now) first.now second.now (length chain.old) budget) }
         ensures kept { ChainKept result chain.old chain.new }
         ensures right { IfOk result (λ v. MatchIsRight (view self.now) first.now second.now (told_verdict v chain.new)) }
     {

@@ -1,5 +1,7 @@
 // Making a table from the book.
-ghost use Rattle.register.specs.Calls.{Settle, Counted, Did, replied};
+ghost use Rattle.std.specs.Prelude.{◌≡◌};
+ghost use Rattle.std.specs.Result.{result_err};
+ghost use Rattle.register.specs.Calls.{Settle, Counted, Did, replied, settling};
 ghost use Rattle.register.specs.View.{view};
 
 use crate::register::Register;
@@ -24,7 +26,8 @@ impl Register {
         capacity: u32,
         budget: u32,
     ) -> Result<Counts, Refusal>
-        ensures { Did (view self.old) (Settle (O.above order.now) capacity budget) (replied (λ n. Counted n.rules n.lines n.steps) result) (view self.new) }
+        ensures did { Did (view self.old) (Settle (O.above order.now) capacity budget) (replied (λ n. Counted n.rules n.lines n.steps) result) (view self.new) }
+        ensures refused { result_err result ≡ result_err (settling (view self.old) (O.above order.now) capacity budget) }
     {
         if self.settled {
             return Err(Refusal::NotOpen);

@@ -21,14 +21,19 @@ returns-then-not-same c =
     let one = c.in_ok-one.one in
     let two = c.in_ok-two.two in
     let same = c.table-table.ensures in
-    let p = placed_way t _ c.args.budget c.args.first.now (Argument 1) one _ (c.rules.ensures.value ∙ same) c.reduce.ensures.is c.in_ok-one.ensures in
-    let q = placed_way t _ (c.args.budget - one.steps) c.args.second.now (Argument 2) two _ (c.rules-2.ensures.value ∙ same) c.reduce-2.ensures.is c.in_ok-two.ensures in
+    let p = placed_way t _ c.args.budget c.args.first.now _ one _ (c.rules.ensures.value ∙ same) c.reduce.ensures.is c.in_ok-one.ensures in
+    let q = placed_way t _ (c.args.budget - one.steps) c.args.second.now _ two _ (c.rules-2.ensures.value ∙ same) c.reduce-2.ensures.is c.in_ok-two.ensures in
     let m = differs t c.args.first.now c.args.second.now (length c.args.chain.now) c.args.budget one two p q (sym (same-alike _ _) ∙ sym c.if-not-same.ensures) in
     let w = well_matched g c.if-not-self.false c.args.first.now c.args.second.now (length c.args.chain.now) c.args.budget _ m in
-    record { did = w.did; kept = refl; right = w.right }
+    record { did = w.did; refused = w.refused; kept = refl; right = w.right }
 
 pub returns-then-steps-chain-clause-did : goal.returns-then-steps-chain-clause-did
 returns-then-steps-chain-clause-did c =
+    let e : alike c.in_ok-one.one.end c.in_ok-two.two.end ≡ true = sym (same-alike _ _) ∙ sym c.if-not-same.ensures in
+    search rules
+
+pub returns-then-steps-chain-clause-refused : goal.returns-then-steps-chain-clause-refused
+returns-then-steps-chain-clause-refused c =
     let e : alike c.in_ok-one.one.end c.in_ok-two.two.end ≡ true = sym (same-alike _ _) ∙ sym c.if-not-same.ensures in
     search rules
 
@@ -43,8 +48,8 @@ returns c =
     let two = c.in_ok-two.two in
     let n = one.steps + two.steps in
     let same = c.table-table.ensures in
-    let p = placed_way t _ c.args.budget a (Argument 1) one _ (c.rules.ensures.value ∙ same) c.reduce.ensures.is c.in_ok-one.ensures in
-    let q = placed_way t _ (c.args.budget - one.steps) b (Argument 2) two _ (c.rules-2.ensures.value ∙ same) c.reduce-2.ensures.is c.in_ok-two.ensures in
+    let p = placed_way t _ c.args.budget a _ one _ (c.rules.ensures.value ∙ same) c.reduce.ensures.is c.in_ok-one.ensures in
+    let q = placed_way t _ (c.args.budget - one.steps) b _ two _ (c.rules-2.ensures.value ∙ same) c.reduce-2.ensures.is c.in_ok-two.ensures in
     let long-one : length p.way.trail ≡ one.steps = ap (λ (r : Reduced). r.steps) p.same in
     let long-two : length q.way.trail ≡ two.steps = ap (λ (r : Reduced). r.steps) q.same in
     let part : length (take (n - 0) row) ≡ n = omega (arith, length-take (n - 0) row) in
@@ -57,4 +62,4 @@ returns c =
     let shown : take n (c.write_between.new.row ++ rest) ≡ chain_between p.way q.way = take_at c.write_between.new.row rest n long ∙ written in
     let m = equals t a b (length row) c.args.budget one two p q (sym (same-alike _ _) ∙ sym c.if-not-same.ensures) (omega arith) ∙ ap (λ zs. Ok (equal zs)) (sym shown) in
     let w = well_matched g c.if-not-self.false a b (length row) c.args.budget _ m in
-    record { did = w.did; kept = drop_at c.write_between.new.row rest n long ∙ ap (λ k. drop k row) (omega arith); right = w.right }
+    record { did = w.did; refused = w.refused; kept = drop_at c.write_between.new.row rest n long ∙ ap (λ k. drop k row) (omega arith); right = w.right }

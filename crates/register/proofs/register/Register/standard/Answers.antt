@@ -1,6 +1,5 @@
 use Rattle.std.proofs.Common.{sym, ◌∙◌, subst}
 use Rattle.rewriting.specs.declared.reduce.Reduced.{Reduced}
-use Rattle.questions.specs.declared.placed.Place.TheVariants.{Argument}
 use Rattle.completion.specs.States.{held}
 use Rattle.register.specs.Contents.{Contents}
 use Rattle.register.specs.Promises.{StandardOf}
@@ -14,6 +13,6 @@ returns-clause-family c =
     let a = c.args.load.now in
     let s = held g.workings in
     let r = c.in_ok-reduced.reduced in
-    let w = placed_way s.table _ c.args.budget a (Argument 1) r _ (c.rules.ensures.value ∙ c.table.ensures) c.reduce.ensures.is c.in_ok-reduced.ensures in
+    let w = placed_way s.table _ c.args.budget a _ r _ (c.rules.ensures.value ∙ c.table.ensures) c.reduce.ensures.is c.in_ok-reduced.ensures in
     subst (λ (x : Contents). StandardOf x a r.end) (sym (view_settled g c.if-not-self.false))
     (subst (λ (e : Reduced). StandardOf (settled_with g.book s) a e.end) w.same (standard_guaranteed g.book s (guarantee g c.if-not-self.false) c.args.budget a w.way w.answered))
