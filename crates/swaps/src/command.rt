@@ -1,7 +1,7 @@
 // What a line of a script asks for.
 use crate::memory::NoMemory;
 use crate::notation::read_load;
-use crate::numbers::read_number;
+use crate::numbers::{read_chain_number, read_number};
 use crate::ordering::{Chosen, read_order};
 use crate::words::Words;
 use loads::Load;
@@ -63,7 +63,7 @@ fn read_match(words: &mut Words) -> Option<Command> {
 fn read_chain(words: &mut Words, heap: Global) -> Result<Option<Vec<i16>>, NoMemory> {
     let mut chain = Vec::new(heap);
     for word in words {
-        let Some(number) = read_number(word) else {
+        let Some(number) = read_chain_number(word) else {
             return Ok(None);
         };
         chain.push(number)?;

@@ -49,9 +49,10 @@ pub(crate) fn read_load(text: &[u8]) -> Option<Load> {
     }
     let mut counts = [0; 8];
     let mut rest = text;
-    for (count, letter) in counts.iter_mut().zip(LETTERS) {
-        if let Some(after) = rest.strip_prefix(&[letter]) {
-            (*count, rest) = read_count(after)?;
+    for (count, letter) in counts.iter_mut().zip(&LETTERS) {
+        match rest {
+            [first, after @ ..] if first == letter => (*count, rest) = read_count(after)?,
+            _ => {}
         }
     }
     if text.is_empty() || !rest.is_empty() {
