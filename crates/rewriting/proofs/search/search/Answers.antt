@@ -11,4 +11,5 @@ returns c =
     let t = c.args.table.now in
     let a = c.args.load.now in
     let e = position_from_yields_List (λ (r : Rule). contains a r.left) _ _ c.position.result c.position.ensures.ran (YieldsList-from_slice t cc) (λ x r q k. search (rules, tests)) in
-    record { is = e ∙ search_position t a; within = search rules }
+    let f = e ∙ search_position t a in
+    record { is = search (rules, tests, f); within = search rules }

@@ -10,5 +10,5 @@ pub sum-requires-clause-fits : goal.sum-requires-clause-fits
 sum-requires-clause-fits c =
     let g = c.args.self.now in
     fits_by_from_yields_list (λ (l : Line). l.length) (take c.args.place (vec_items g.lines)) c.map.result (2 ^ 64)
-    (YieldsList-from_map _ (λ (l : Line). l.length) (YieldsList-from_slice (take c.args.place (vec_items g.lines)) cc) c.map.ensures.closure (λ x r q k. search (rules, tests)))
+    (YieldsList-from_map _ (λ (l : Line). l.length) (YieldsList-from_slice (take c.args.place (vec_items g.lines)) (search rules)) c.map.ensures.closure (λ x r q k. search (rules, tests)))
     (omega (arith, sum_by-take-le (λ (l : Line). l.length) (vec_items g.lines) c.args.place, g.summed, g.few))
