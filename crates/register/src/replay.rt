@@ -1,5 +1,7 @@
 // Following a chain by the lines of a register.
-ghost use Rattle.register.specs.Calls.{Replay, Replayed, Did, replied};
+ghost use Rattle.std.specs.Prelude.{◌≡◌};
+ghost use Rattle.std.specs.Result.{result_err};
+ghost use Rattle.register.specs.Calls.{Replay, Replayed, Did, replied, replaying};
 ghost use Rattle.register.specs.View.{view};
 
 use crate::register::Register;
@@ -17,7 +19,8 @@ pub struct Outcome {
 impl Register {
     // Follows a chain from a load, on an open register or a settled one: line k forward is k, backward -k.
     pub fn replay(&self, load: &Load, chain: &[i16]) -> Result<Outcome, Refusal>
-        ensures { Did (view self.now) (Replay load.now chain.now) (replied (λ x. Replayed x.end x.net) result) (view self.now) }
+        ensures did { Did (view self.now) (Replay load.now chain.now) (replied (λ x. Replayed x.end x.net) result) (view self.now) }
+        ensures refused { result_err result ≡ result_err (replaying (view self.now) load.now chain.now) }
     {
         let end = self.lines().replay(chain, load)?;
         Ok(Outcome {
