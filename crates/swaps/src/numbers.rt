@@ -1,7 +1,7 @@
 // Numbers in decimal.
 
-// The number that these digits write, if there are any and it is one of the type. They are added up here and not by the library's `parse`, which reads
-// text: a look at all bytes first and a test at every step took half as long again.
+// The number that these digits write, if there are any and it is one of the type, which has fewer than 64 bits. They are added up here and not by the
+// library's `parse`, which reads text: a look at all bytes first and a test at every step took half as long again.
 pub(crate) fn read_number<N: TryFrom<u64>>(digits: &[u8]) -> Option<N>
 where
     N::Error: Drop,
